@@ -1,0 +1,12 @@
+pub mod Tree
+pub mod Match
+pub mod Expression
+pub mod Alternative
+pub mod Machines
+pub mod Pipeline
+pub mod Root
+pub mod Listing
+pub mod Check
+pub mod Tick
+pub mod Refusals
+pub mod Lower

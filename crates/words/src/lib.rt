@@ -1,0 +1,26 @@
+// Words put into a lent slice, and a slice cleared.
+ghost use mathlib.Core.Path.{_≡_};
+ghost use mathlib.Core.List.{[], _∷_};
+ghost use Prim.Native.Nat.{_<_};
+ghost use lib.ListN.{length, replicate};
+ghost use Rattle.words.specs.Written.{Wrote};
+
+// Puts one word at the place; the next place.
+pub fn put(out: &mut [u32], place: usize, word: u32) -> usize
+    requires { ⌜ place < length (now out) ⌝ }
+    ensures { λ next. ⌜ Wrote (now (out .entry)) (now (out .exit)) place next (word ∷ []) ⌝ }
+{
+    out[place] = word;
+    place + 1
+}
+
+// Every word to zero.
+pub fn clear(work: &mut [u32])
+    ensures { λ _. ⌜ now (work .exit) ≡ replicate (length (now (work .entry))) 0 ⌝ }
+{
+    let mut i = 0;
+    while i < work.len() {
+        work[i] = 0;
+        i += 1;
+    }
+}

@@ -1,0 +1,28 @@
+use borrow.Author.Needs.{needs}
+use Rattle.words.specs.Choice.{tests}
+use Rattle.term.specs.Steps.{termFrom}
+use Rattle.term.proofs.term_from.Statement.{statement}
+use Rattle.term.proofs.term_from.Tie as tie
+
+returns : tie.Need-returns
+unfolding termFrom
+returns c = search tests depth 7
+
+returns-2 : tie.Need-returns-2
+unfolding termFrom
+returns-2 c = search tests depth 7
+
+returns-3 : tie.Need-returns-3
+unfolding termFrom
+returns-3 c = search tests depth 7
+
+returns-4 : tie.Need-returns-4
+unfolding termFrom
+returns-4 c = search tests depth 7
+
+returns-5 : tie.Need-returns-5
+unfolding termFrom
+returns-5 c = search tests depth 7
+
+pub term-from-spec : {M : Type 1} → statement M
+term-from-spec = tie.close (tie.spec returns returns-2 returns-3 returns-4 returns-5)

@@ -1,0 +1,113 @@
+// Steps kept in a lent slice, five words each: the term's tag, atom and count, then the hop's tag and length.
+//
+// Example: Bool(7) reached by AtLeast(2) is the words 1, 7, 0, 1, 2; `load` reads it back.
+ghost use mathlib.Core.Path.{_≡_};
+ghost use Prim.Native.Nat.{_+_, _≤_};
+ghost use lib.ListN.{length};
+ghost use Rattle.words.specs.Written.{Wrote};
+ghost use Rattle.term.specs.Steps.{termTag, termAtom, termCount, hopTag, hopLength, termFrom, hopFrom, stepWords, stepAt};
+
+fn term_tag(x: meaning::SeqTerm) -> u32
+    ensures { λ r. ⌜ r ≡ termTag x ⌝ }
+{
+    match x {
+        meaning::SeqTerm::Bool(_) => 1,
+        meaning::SeqTerm::Goto(_, _) => 2,
+        meaning::SeqTerm::Nonconsec(_, _) => 3,
+        meaning::SeqTerm::ConsecAtLeast(_, _) => 4,
+        meaning::SeqTerm::Empty => 0,
+    }
+}
+
+fn term_atom(x: meaning::SeqTerm) -> u32
+    ensures { λ r. ⌜ r ≡ termAtom x ⌝ }
+{
+    match x {
+        meaning::SeqTerm::Bool(a) => a,
+        meaning::SeqTerm::Goto(b, _) => b,
+        meaning::SeqTerm::Nonconsec(b, _) => b,
+        meaning::SeqTerm::ConsecAtLeast(b, _) => b,
+        meaning::SeqTerm::Empty => 0,
+    }
+}
+
+fn term_count(x: meaning::SeqTerm) -> u32
+    ensures { λ r. ⌜ r ≡ termCount x ⌝ }
+{
+    match x {
+        meaning::SeqTerm::Bool(_) => 0,
+        meaning::SeqTerm::Goto(_, k) => k,
+        meaning::SeqTerm::Nonconsec(_, k) => k,
+        meaning::SeqTerm::ConsecAtLeast(_, k) => k,
+        meaning::SeqTerm::Empty => 0,
+    }
+}
+
+fn hop_tag(h: meaning::SeqHop) -> u32
+    ensures { λ r. ⌜ r ≡ hopTag h ⌝ }
+{
+    match h {
+        meaning::SeqHop::Fixed(_) => 0,
+        meaning::SeqHop::AtLeast(_) => 1,
+    }
+}
+
+fn hop_length(h: meaning::SeqHop) -> u32
+    ensures { λ r. ⌜ r ≡ hopLength h ⌝ }
+{
+    match h {
+        meaning::SeqHop::Fixed(d) => d,
+        meaning::SeqHop::AtLeast(m) => m,
+    }
+}
+
+// Puts the step's five words from the place on; the next place.
+pub fn store(out: &mut [u32], at: usize, s: meaning::SeqStep) -> usize
+    requires { ⌜ at + 5 ≤ length (now out) ⌝ }
+    ensures { λ next. ⌜ Wrote (now (out .entry)) (now (out .exit)) at next (stepWords s) ⌝ }
+{
+    let x = s.term;
+    let h = s.hop;
+    let a = words::put(out, at, term_tag(x));
+    let b = words::put(out, a, term_atom(x));
+    let c = words::put(out, b, term_count(x));
+    let d = words::put(out, c, hop_tag(h));
+    words::put(out, d, hop_length(h))
+}
+
+fn term_from(tag: u32, atom: u32, count: u32) -> meaning::SeqTerm
+    ensures { λ r. ⌜ r ≡ termFrom tag atom count ⌝ }
+{
+    if tag == 1 {
+        return meaning::SeqTerm::Bool(atom);
+    }
+    if tag == 2 {
+        return meaning::SeqTerm::Goto(atom, count);
+    }
+    if tag == 3 {
+        return meaning::SeqTerm::Nonconsec(atom, count);
+    }
+    if tag == 4 {
+        return meaning::SeqTerm::ConsecAtLeast(atom, count);
+    }
+    meaning::SeqTerm::Empty
+}
+
+fn hop_from(tag: u32, length: u32) -> meaning::SeqHop
+    ensures { λ r. ⌜ r ≡ hopFrom tag length ⌝ }
+{
+    if tag == 0 {
+        return meaning::SeqHop::Fixed(length);
+    }
+    meaning::SeqHop::AtLeast(length)
+}
+
+// The step that stands at the place.
+pub fn load(s: &[u32], at: usize) -> meaning::SeqStep
+    requires { ⌜ at + 5 ≤ length (now s) ⌝ }
+    ensures { λ r. ⌜ r ≡ stepAt (now (s .entry)) at ⌝ }
+{
+    let x = term_from(s[at], s[at + 1], s[at + 2]);
+    let h = hop_from(s[at + 3], s[at + 4]);
+    meaning::SeqStep { term: x, hop: h }
+}

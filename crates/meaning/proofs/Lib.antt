@@ -1,4 +1,5 @@
 pub mod Nodes
 pub mod Values
 pub mod Acceptable
+pub mod Counting
 pub mod StarredRows

@@ -9,7 +9,8 @@ use Rattle.words.specs.Choice.{pick}
 use Rattle.words.specs.Written.{written}
 use Rattle.meaning.specs.Tree.{root}
 use Rattle.meaning.specs.Root.{synth-seq-match}
-use Rattle.meaning.specs.Listing.{listing, registers, deepest}
+use Rattle.meaning.specs.Expression.{Synth}
+use Rattle.meaning.specs.Listing.{listing, deepest}
 use Rattle.meaning.specs.Refusals.{table, walk-root, room-of, Found, at, nowhere, misplaced}
 use Rattle.meaning.specs.declared.Table.{Table}
 use Rattle.meaning.specs.declared.Table.the-variants.{Formed, Refused as Misformed}
@@ -19,25 +20,26 @@ use Rattle.meaning.specs.declared.Walked.the-variants.{Counted, Refused 
 use Rattle.meaning.specs.declared.Lowered.{Lowered}
 use Rattle.meaning.specs.declared.Lowered.the-variants.{Listing, Refused}
 
--- The words that a tree lowers to, its registers numbered from `first` on.
-unfoldable pub words-of : List ℕ → ℕ → List ℕ
-words-of t first = listing first (synth-seq-match (root t) first)
+-- The assignments and the match that a tree lowers to, its registers numbered from `first` on, and their words.
+unfoldable pub synth-of : List ℕ → ℕ → Synth
+synth-of t first = synth-seq-match (root t) first
 
--- "13: more than 65,536 registers", "14: output slice too short"; else what is counted in the words.
-unfoldable pub fits : List ℕ → ℕ → ℕ → Lowered
-fits ws first out =
-    pick (ltb 65536 (first + registers ws))
-    (Refused 13 0)
-    (pick (ltb out (length ws)) (Refused 14 0) (Listing (registers ws) (length ws) (deepest ws)))
+unfoldable pub words-of : List ℕ → ℕ → List ℕ
+words-of t first = listing first (synth-of t first)
+
+-- "13: more than 65,536 registers", "14: output slice too short"; else "the registers, the words, and the deepest stack".
+unfoldable pub fits : ℕ → List ℕ → ℕ → ℕ → Lowered
+fits count ws first out =
+    pick (ltb 65536 (first + count)) (Refused 13 0) (pick (ltb out (length ws)) (Refused 14 0) (Listing count (length ws) (deepest ws)))
 
 -- "Then 12, 13, 14": 12 has the lowest alternative.
 unfoldable pub after-walk : Found → List ℕ → ℕ → ℕ → Lowered
-after-walk (at i) ws first out = Refused 12 i
-after-walk nowhere ws first out = fits ws first out
+after-walk (at i) t first out = Refused 12 i
+after-walk nowhere t first out = fits (length (synth-of t first .stores)) (words-of t first) first out
 
 unfoldable pub after-table : Walked → List ℕ → ℕ → ℕ → Lowered
 after-table (Stopped number place) t first out = Refused number place
-after-table (Counted c) t first out = after-walk (misplaced (root t)) (words-of t first) first out
+after-table (Counted c) t first out = after-walk (misplaced (root t)) t first out
 
 unfoldable pub after-nothing : Table → List ℕ → ℕ → ℕ → ℕ → Lowered
 after-nothing (Misformed number place) t work out first = Refused number place

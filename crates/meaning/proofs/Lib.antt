@@ -2,3 +2,5 @@ pub mod Nodes
 pub mod Values
 pub mod Acceptable
 pub mod StarredRows
+pub mod Taken
+pub mod Formed

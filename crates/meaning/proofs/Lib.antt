@@ -4,3 +4,4 @@ pub mod Acceptable
 pub mod StarredRows
 pub mod Taken
 pub mod Formed
+pub mod Ranges

@@ -5,3 +5,4 @@ pub mod StarredRows
 pub mod Taken
 pub mod Formed
 pub mod Ranges
+pub mod Walks

@@ -6,3 +6,4 @@ pub mod Taken
 pub mod Formed
 pub mod Ranges
 pub mod Walks
+pub mod Members

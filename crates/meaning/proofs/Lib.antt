@@ -7,3 +7,4 @@ pub mod Formed
 pub mod Ranges
 pub mod Walks
 pub mod Members
+pub mod Accepted

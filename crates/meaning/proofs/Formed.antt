@@ -3,10 +3,10 @@
 use mathlib.Core.Path.{_≡_, refl}
 use mathlib.Core.Bool.{Bool, true, false}
 use mathlib.Core.List.{List}
-use Prim.Native.Nat.{ℕ, zero, suc, _+_, _*_, _%_, _≤_, _<_}
+use Prim.Native.Nat.{ℕ, zero, suc, _+_, _%_, _≤_, _<_}
 use native.Mathlib.Omega.{arith}
 use native.Mathlib.Decide.{decLe}
-use lib.Dec.{eqb, ltb, leb}
+use lib.Dec.{eqb, ltb}
 use lib.ListN.{length}
 use borrow.Author.Tests.{ltb-true, ltb-false, leb-true, eqb-true, eqb-false}
 use Rattle.words.specs.Choice.{pick, pick-case}
@@ -85,6 +85,7 @@ module _ (n : ℕ) (v : Node) (formed : formed-node n v ≡ true) (ranged : rang
   abbrev Repeated : Type 0
   Repeated = pick (ltb (v .p) n) (pick (eqb (v .q) 0) (ltb (v .min) unlimited) false) false ≡ true
 
+  -- Their operand is lower, and their least count is none of $.
   repetition-words : Repeated → (v .p < n) × (v .min < unlimited)
   repetition-words e =
       let (under, more) = both-hold (ltb (v .p) n) e in

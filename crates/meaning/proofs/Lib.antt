@@ -7,4 +7,7 @@ pub mod Formed
 pub mod Ranges
 pub mod Walks
 pub mod Members
+pub mod EveryAlternative
+pub mod Rules
 pub mod Accepted
+pub mod ListingAnswer

@@ -7,7 +7,7 @@ use Prim.Native.Nat.{ℕ, zero, suc, _+_, _≤_, _<_}
 use native.Mathlib.Omega.{arith}
 use native.Mathlib.Decide.{ℕ-discrete}
 use Rattle.meaning.specs.Expression.{any, a·}
-use Rattle.meaning.specs.Alternative.{Guard, unguarded, guard, and-opt, SeqAlt, alternative, single, joined, join-rights, join-lefts, join-hops, copies, copies-from, with-empty, guard-each}
+use Rattle.meaning.specs.Alternative.{guard, and-opt, SeqAlt, alternative, single, joined, join-rights, join-lefts, join-hops, copies, copies-from, with-empty, guard-each}
 use Rattle.meaning.specs.declared.SeqTerm.the-variants.{Empty}
 use Rattle.meaning.specs.declared.SeqHop.{SeqHop}
 use Rattle.meaning.proofs.Acceptable.{In}

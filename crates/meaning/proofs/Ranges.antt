@@ -2,13 +2,13 @@
 -- induction on the node number: operands are lower.
 use mathlib.Core.Path.{_≡_, refl}
 use mathlib.Core.List.{List}
-use Prim.Native.Nat.{ℕ, zero, suc, _+_, _≤_, _<_}
+use Prim.Native.Nat.{ℕ, zero, suc, _≤_, _<_}
 use native.Mathlib.Omega.{arith}
 use lib.Dec.{eqb}
-use Rattle.words.specs.Choice.{pick, pick-case}
+use Rattle.words.specs.Choice.{pick-case}
 use Rattle.meaning.specs.Tree.{maxOf, nodeAt, treeAt, nodes, below, root, unlimited}
 use Rattle.meaning.specs.Match.{UpTo}
-use Rattle.meaning.specs.Lowerable.{WellFormed, FormedTable, Ranged}
+use Rattle.meaning.specs.Lowerable.{FormedTable, Ranged}
 use Rattle.meaning.proofs.Nodes.{at-atom, at-delay, at-consec, at-goto, at-nonconsec, at-throughout, at-within}
 
 -- One of 01's seven kinds.

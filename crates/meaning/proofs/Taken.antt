@@ -17,6 +17,7 @@ unfolding pick
 second-taken true f e = absurd (f e)
 second-taken false f e = (refl, e)
 
+-- For a test that was passed.
 pub false-is-not-true : false ≡ true → ⊥
 false-is-not-true e = let z : _≡_ {A = ℕ} 0 1 = cc in omega arith
 

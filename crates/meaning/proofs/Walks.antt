@@ -1,7 +1,7 @@
 -- A tree that the walk counts is walkable: refusals 5 to 11 fall on none of the nodes that it visits, and what it hands up
 -- is what stands in the expansion. Read off the walk backwards, node by node; nothing is assumed of the tree.
 use mathlib.Core.Path.{_≡_, refl}
-use mathlib.Core.Bool.{Bool, true, false}
+use mathlib.Core.Bool.{true, false}
 use mathlib.Core.List.{List}
 use Prim.Native.Nat.{ℕ, zero, suc, _+_, _*_, _≤_}
 use native.Mathlib.Omega.{arith}
@@ -9,7 +9,7 @@ use lib.Dec.{ltb}
 use lib.ListN.{length}
 use borrow.Author.Tests.{ltb-false}
 use Rattle.words.specs.Choice.{pick}
-use Rattle.meaning.specs.Tree.{Max, finite, unbounded, Seq, atom, delay, consec, goto, nonconsec, throughout, within, Operand, boolean, other, operand}
+use Rattle.meaning.specs.Tree.{finite, unbounded, Seq, atom, delay, consec, goto, nonconsec, throughout, within, Operand, boolean, other, operand}
 use Rattle.meaning.specs.Alternative.{SeqAlt, expand}
 use Rattle.meaning.specs.Refusals.{entries, plain, counts, limited, and-then, deep-enough, is-boolean, over-boolean, walk-in, walk, within-fits, pair-counts, limited-within, walk-root}
 use Rattle.meaning.specs.Lowerable.{IsBoolean, Bounded, Walkable, Pairable, WalkableRoot}

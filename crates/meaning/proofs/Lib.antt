@@ -3,3 +3,12 @@ pub mod Values
 pub mod Acceptable
 pub mod Counting
 pub mod StarredRows
+pub mod Taken
+pub mod Formed
+pub mod Ranges
+pub mod Walks
+pub mod Members
+pub mod EveryAlternative
+pub mod Rules
+pub mod Accepted
+pub mod ListingAnswer

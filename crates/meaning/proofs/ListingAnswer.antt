@@ -8,9 +8,10 @@ use lib.Dec.{ltb}
 use lib.ListN.{length}
 use borrow.Author.Tests.{ltb-false}
 use Rattle.meaning.specs.Tree.{root}
-use Rattle.meaning.specs.Listing.{registers, deepest}
+use Rattle.meaning.specs.Expression.{Synth}
+use Rattle.meaning.specs.Listing.{listing, deepest}
 use Rattle.meaning.specs.Refusals.{table, walk-root, room-of, Found, at, nowhere, misplaced}
-use Rattle.meaning.specs.Lower.{words-of, fits, after-walk, after-table, after-nothing, lower}
+use Rattle.meaning.specs.Lower.{synth-of, words-of, fits, after-walk, after-table, after-nothing, lower}
 use Rattle.meaning.specs.Lowerable.{FormedTable, Ranged, WalkableRoot}
 use Rattle.meaning.specs.Demand3.{ThroughoutOnTop}
 use Rattle.meaning.specs.declared.Table.{Table}
@@ -26,13 +27,13 @@ use Rattle.meaning.proofs.Walks.{a-walked-root-is-walkable}
 use Rattle.meaning.proofs.Acceptable.{Acceptable}
 use Rattle.meaning.proofs.Accepted.{an-accepted-tree-is-acceptable}
 
--- The words fit: 13 and 14 are past, and the numbers are counted in the words.
-pub record Fitting (ws : List ℕ) (first out r w d : ℕ) : Type 0 where
-  pub few : first + registers ws ≤ 65536
-  pub long-enough : length ws ≤ out
-  pub registers-are : r ≡ registers ws
-  pub words-are : w ≡ length ws
-  pub deepest-is : d ≡ deepest ws
+-- The words fit: 13 and 14 are past, and the numbers are those of the assignments and of the words.
+pub record Fitting (o : Synth) (first out r w d : ℕ) : Type 0 where
+  pub few : first + length (o .stores) ≤ 65536
+  pub long-enough : length (listing first o) ≤ out
+  pub registers-are : r ≡ length (o .stores)
+  pub words-are : w ≡ length (listing first o)
+  pub deepest-is : d ≡ deepest (listing first o)
 
 -- The whole table passed.
 pub record PassedAll (t : List ℕ) (work out first r w d : ℕ) : Type 0 where
@@ -40,7 +41,7 @@ pub record PassedAll (t : List ℕ) (work out first r w d : ℕ) : Type 0 where
   pub ranged : Ranged (root t)
   pub walkable : WalkableRoot (room-of work) (root t)
   pub placed : misplaced (root t) ≡ nowhere
-  pub fitting : Fitting (words-of t first) first out r w d
+  pub fitting : Fitting (synth-of t first) first out r w d
 
 module _ (r w d : ℕ) where
   -- A refusal is another answer than a listing.
@@ -48,23 +49,24 @@ module _ (r w d : ℕ) where
   refused-is-not-listed e = let z : _≡_ {A = ℕ} 0 1 = cc in omega arith
 
   -- What each stage let pass, from the last to the first: 13 and 14 ..
-  fits-listed : (ws : List ℕ) (first out : ℕ) → fits ws first out ≡ Listing r w d → Fitting ws first out r w d
-  unfolding fits
-  fits-listed ws first out e =
-      let (many, more) = second-taken (ltb 65536 (first + registers ws)) refused-is-not-listed e in
-      let (short, same) = second-taken (ltb out (length ws)) refused-is-not-listed more in
+  fits-listed : (t : List ℕ) (first out : ℕ) → fits (length (synth-of t first .stores)) (words-of t first) first out ≡ Listing r w d
+      → Fitting (synth-of t first) first out r w d
+  unfolding fits words-of
+  fits-listed t first out e =
+      let (many, more) = second-taken (ltb 65536 (first + length (synth-of t first .stores))) refused-is-not-listed e in
+      let (short, same) = second-taken (ltb out (length (words-of t first))) refused-is-not-listed more in
       record { few = ltb-false _ _ many; long-enough = ltb-false _ _ short; registers-are = cc; words-are = cc; deepest-is = cc }
 
   -- .. then 12 ..
-  placed-listed : (found : Found) (ws : List ℕ) (first out : ℕ) → after-walk found ws first out ≡ Listing r w d
-      → (found ≡ nowhere) × (fits ws first out ≡ Listing r w d)
+  placed-listed : (found : Found) (t : List ℕ) (first out : ℕ) → after-walk found t first out ≡ Listing r w d
+      → (found ≡ nowhere) × (fits (length (synth-of t first .stores)) (words-of t first) first out ≡ Listing r w d)
   unfolding after-walk
-  placed-listed (at i) ws first out e = absurd (refused-is-not-listed e)
-  placed-listed nowhere ws first out e = (refl, e)
+  placed-listed (at i) t first out e = absurd (refused-is-not-listed e)
+  placed-listed nowhere t first out e = (refl, e)
 
   -- .. then 4 to 11 ..
   walked-listed : (walked : Walked) (t : List ℕ) (first out : ℕ) → after-table walked t first out ≡ Listing r w d
-      → ((c : Counts) × (walked ≡ Counted c)) × (after-walk (misplaced (root t)) (words-of t first) first out ≡ Listing r w d)
+      → ((c : Counts) × (walked ≡ Counted c)) × (after-walk (misplaced (root t)) t first out ≡ Listing r w d)
   unfolding after-table
   walked-listed (Stopped number place) t first out e = absurd (refused-is-not-listed e)
   walked-listed (Counted c) t first out e = ((c, refl), e)
@@ -82,13 +84,13 @@ unfolding lower
 a-listed-table-passed-all t work out first r w d e =
     let (formed, walking) = formed-listed r w d (table t) t work out first e in
     let ((c, counted), placing) = walked-listed r w d (walk-root (room-of work) (root t)) t first out walking in
-    let (placed, fitting) = placed-listed r w d (misplaced (root t)) (words-of t first) first out placing in
+    let (placed, fitting) = placed-listed r w d (misplaced (root t)) t first out placing in
     record {
       formed = a-formed-table t formed;
       ranged = a-formed-root-is-ranged t (a-formed-table t formed);
       walkable = a-walked-root-is-walkable (room-of work) (root t) c counted;
       placed = placed;
-      fitting = fits-listed r w d (words-of t first) first out fitting;
+      fitting = fits-listed r w d t first out fitting;
     }
 
 -- What demand 3 asks for, from its own premises.

@@ -2,3 +2,4 @@ pub mod Nodes
 pub mod Values
 pub mod Acceptable
 pub mod StarredRows
+pub mod LoweredCounts

@@ -3,3 +3,7 @@ pub mod Values
 pub mod Acceptable
 pub mod StarredRows
 pub mod LoweredCounts
+pub mod Uses
+pub mod Operations
+pub mod Evaluation
+pub mod Emitted

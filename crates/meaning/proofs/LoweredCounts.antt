@@ -18,7 +18,6 @@ use Rattle.meaning.specs.declared.Table.the-variants.{Formed, Refused as
 use Rattle.meaning.specs.declared.Counts.{Counts}
 use Rattle.meaning.specs.declared.Walked.{Walked}
 use Rattle.meaning.specs.declared.Walked.the-variants.{Counted, Refused as Stopped}
-use Rattle.meaning.specs.declared.Lowered.{Lowered}
 use Rattle.meaning.specs.declared.Lowered.the-variants.{Listing, Refused}
 
 -- The three numbers are counted in the words, which have room: 13 and 14 passed.

@@ -32,6 +32,42 @@ stored-length cur atoms (w ∷ ws) st = go (is-store w) (stored-length cur atoms
     go true e = omega arith
     go false e = omega arith
 
+-- There is a register for each store of a lowering, from whichever register n on.
+pub a-listing-has-its-registers : (n R : ℕ) (o : Synth) → n + length (o .stores) ≤ 65536 → R ≤ 65536 → SynthUses R 65536 o
+    → registers (listing n o) ≡ length (o .stores)
+a-listing-has-its-registers n R o few l u =
+    let none : Bits [] [] R 65536 = record {
+      registers-fit = omega arith;
+      atoms-fit = omega arith;
+      register-bits = λ r l. omega arith;
+      atom-bits = λ a l. omega arith;
+    } in
+    sym (stored-length [] [] (listing n o) [])
+    ∙ ap length (the-stores-take-their-values [] [] R 65536 none n o u (omega arith))
+    ∙ length-map (o .stores) (λ s. value [] [] (s .from))
+
+registers-append : (xs ys : List ℕ) → registers (xs ++ ys) ≡ registers xs + registers ys
+unfolding registers
+registers-append [] ys = omega arith
+registers-append (x ∷ xs) ys = rw (registers-append xs ys) (omega arith)
+
+few-stores : (n : ℕ) (ss : List Store) (ws : List ℕ) → n + registers (store-words n ss ++ ws) ≤ 65536 → n + length ss ≤ 65536
+unfolding registers pick
+few-stores n [] ws l = omega arith
+few-stores n (s ∷ ss) ws l =
+    let w = word (store-operation (s .tag)) n in
+    let (low, high) = a-tag-is-a-store (s .tag) in
+    let o = operation-of-word (store-operation (s .tag)) n (omega arith) in
+    let e = registers-append (expression-words (s .from)) (w ∷ (store-words (suc n) ss ++ ws)) in
+    let counted : registers (w ∷ (store-words (suc n) ss ++ ws)) ≡ 1 + registers (store-words (suc n) ss ++ ws) =
+    rw (operation-is-store w (omega arith) (omega arith)) in
+    let l′ = rw append-assoc at l in
+    let rest = few-stores (suc n) ss ws (omega arith) in omega arith
+
+-- 13 bounds the stores themselves: whatever the expressions are, no store escapes the count.
+pub few-registers-are-few-stores : (n : ℕ) (o : Synth) → n + registers (listing n o) ≤ 65536 → n + length (o .stores) ≤ 65536
+few-registers-are-few-stores n o l = few-stores n (o .stores) (expression-words (o .cur) ++ (word 14 0 ∷ [])) l
+
 -- In a slice of `count` stores, the words pass the check at height h behind k stores, wherever they stand.
 abbrev Passes : ℕ → List ℕ → ℕ → ℕ → Type 0
 Passes count ws k h = (place : ℕ) → check-from count ws place k h ≡ Described
@@ -130,27 +166,13 @@ module _ (count : ℕ) (few : count ≤ 65536) where
       (expression-passes (s .from) (u .0) (word (store-operation (s .tag)) n ∷ (store-words (suc n) ss ++ ws)) n 0
       (store-passes (s .tag) n (omega arith) (store-words (suc n) ss ++ ws) (stores-pass (suc n) ss (u .1) (omega arith) ws (rw e at rest))))
 
--- R registers and atoms below 65,536, as 1 and 13 leave them.
-module _ (o : Synth) (few : length (o .stores) ≤ 65536) (u : SynthUses (length (o .stores)) 65536 o) where
-  -- There is a register for each store.
-  pub a-listing-has-its-registers : registers (listing 0 o) ≡ length (o .stores)
-  a-listing-has-its-registers =
-      let none : Bits [] [] (length (o .stores)) 65536 = record {
-        registers-fit = omega arith;
-        atoms-fit = omega arith;
-        register-bits = λ r l. omega arith;
-        atom-bits = λ a l. omega arith;
-      } in
-      sym (stored-length [] [] (listing 0 o) [])
-      ∙ ap length (the-stores-take-their-values [] [] (length (o .stores)) 65536 none 0 o u (omega arith))
-      ∙ length-map (o .stores) (λ s. value [] [] (s .from))
-
-  -- 21 never falls on the words of a lowering.
-  pub a-lowered-listing-passes-the-check : check (listing 0 o) ≡ Described
-  unfolding check check-from word-fits argument-fits operands-fit is-store row-of rows after-match pick
-  a-lowered-listing-passes-the-check =
-      let R = length (o .stores) in
-      let last : Passes R (word 14 0 ∷ []) R 1 = λ place. refl in
-      rw a-listing-has-its-registers
-      (stores-pass R few 0 (o .stores) (u .0) (omega arith) (expression-words (o .cur) ++ (word 14 0 ∷ []))
-      (rw zero-add (expression-passes R few (o .cur) (u .1) (word 14 0 ∷ []) R 0 last)) 0)
+-- 21 never falls on the words of a lowering from register 0 on.
+pub a-lowered-listing-passes-the-check : (o : Synth) → length (o .stores) ≤ 65536 → SynthUses (length (o .stores)) 65536 o
+    → check (listing 0 o) ≡ Described
+unfolding check check-from word-fits argument-fits operands-fit is-store row-of rows after-match pick
+a-lowered-listing-passes-the-check o few u =
+    let R = length (o .stores) in
+    let last : Passes R (word 14 0 ∷ []) R 1 = λ place. refl in
+    rw (a-listing-has-its-registers 0 R o (omega arith) few u)
+    (stores-pass R few 0 (o .stores) (u .0) (omega arith) (expression-words (o .cur) ++ (word 14 0 ∷ []))
+    (rw zero-add (expression-passes R few (o .cur) (u .1) (word 14 0 ∷ []) R 0 last)) 0)

@@ -7,3 +7,4 @@ pub mod Uses
 pub mod Operations
 pub mod Evaluation
 pub mod Emitted
+pub mod Bounds

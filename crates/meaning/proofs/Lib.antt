@@ -8,3 +8,4 @@ pub mod Operations
 pub mod Evaluation
 pub mod Emitted
 pub mod Bounds
+pub mod Ticking

@@ -21,7 +21,7 @@ use Rattle.meaning.specs.declared.SeqHop.the-variants.{Fixed, AtLeast}
 use Rattle.meaning.specs.declared.SeqStep.{SeqStep}
 use Rattle.meaning.proofs.Uses.{Each, each-append, Uses, StoreUses, SynthUses}
 
--- The atom of a term, or of a step's term, is below 65,536.
+-- The atom of a term is below 65,536.
 abbrev TermSmall : SeqTerm → Type 0
 TermSmall (BoolTerm a) = a < 65536
 TermSmall (Goto b k) = b < 65536
@@ -29,6 +29,7 @@ TermSmall (Nonconsec b k) = b < 65536
 TermSmall (ConsecAtLeast b k) = b < 65536
 TermSmall Empty = Unit {0}
 
+-- .. and so of a step, by its term.
 abbrev StepSmall : SeqStep → Type 0
 StepSmall s = TermSmall (s .term)
 
@@ -37,6 +38,7 @@ module _ (R : ℕ) where
   abbrev Small : Expr → Type 0
   Small e = Uses R 65536 e
 
+  -- .. in a guard, and in an alternative.
   abbrev GuardSmall : Guard → Type 0
   GuardSmall unguarded = Unit {0}
   GuardSmall (guard x) = Small x
@@ -44,13 +46,15 @@ module _ (R : ℕ) where
   abbrev AltSmall : SeqAlt → Type 0
   AltSmall y = GuardSmall (y .guard) × Each StepSmall (y .steps)
 
-  -- Where its registers, from n on, are all below R, it uses none but such.
+  -- With all its registers, from n on, below R, a part of the lowering uses no others.
   abbrev Bounded : ℕ → Synth → Type 0
   Bounded n o = n + length (o .stores) ≤ R → SynthUses R 65536 o
 
+  -- .. and so do several alternatives.
   abbrev SignalsBounded : ℕ → Signals → Type 0
   SignalsBounded n p = n + length (p .stores) ≤ R → Each (StoreUses R 65536) (p .stores) × Each Small (p .curs)
 
+  -- A store in front: its expression may name register n itself.
   also-bounded : (n : ℕ) (s : Store) (o : Synth) → (n < R → Small (s .from) × Bounded (suc n) o) → Bounded n (also s o)
   also-bounded n s o p l =
       let (from, rest) = p (omega arith) in
@@ -60,6 +64,7 @@ module _ (R : ℕ) where
   room-parts : (xs ys : List Store) (n : ℕ) → n + length (xs ++ ys) ≤ R → (n + length xs ≤ R) × (n + length xs + length ys ≤ R)
   room-parts xs ys n l = let e = length-append xs ys in (omega arith, omega arith)
 
+  -- The one function, then the other on its expression.
   then-bounded : (n : ℕ) (o : Synth) (f : ℕ → Expr → Synth) → Bounded n o → ((m : ℕ) → Small (o .cur) → Bounded m (f m (o .cur)))
       → Bounded n (andThen n o f)
   then-bounded n o f p q l =
@@ -68,7 +73,7 @@ module _ (R : ℕ) where
       let (stores, cur) = p room in
       let (stores′, cur′) = q m cur room′ in (each-append (StoreUses R 65536) (o .stores) (f m (o .cur) .stores) stores stores′, cur′)
 
-  -- The machines of sva_fsm.rs.
+  -- The three machines, over the Boolean b and a small activation.
   module _ (b : ℕ) (s : b < 65536) where
     goto-stages-bounded : (k n : ℕ) (avail : Expr) → Small avail → Bounded n (goto-stages b n k avail)
     goto-stages-bounded zero n avail p = λ l. (tt, (s, p))
@@ -99,7 +104,7 @@ module _ (R : ℕ) where
     run-bounded (suc k) n prior p =
         also-bounded n (store crl (and· prior (bb b))) (run-stages b k (suc n) (r· n)) (λ i. ((p, s), run-bounded k (suc n) (r· n) i))
 
-  -- The pipeline.
+  -- The pipeline: guards, delays and latches, terms, steps; small where what they are given is.
   guard-and-small : (g : Guard) (e : Expr) → GuardSmall g → Small e → Small (guard-and g e)
   guard-and-small unguarded e p q = q
   guard-and-small (guard x) e p q = (q, p)
@@ -163,7 +168,7 @@ module _ (R : ℕ) where
         (λ l. let (stores, q) = seed-bounded (x .term) (s .0) n l in (stores, guard-and-small g (o .cur) p q))
         (λ m q. laters-bounded ss (s .1) m cur q)
 
-  -- The alternatives of a tree.
+  -- The alternatives of a tree have its atoms: joined, copied and guarded ones too.
   abbrev AltsSmall : List SeqAlt → Type 0
   AltsSmall alts = Each AltSmall alts
 
@@ -214,7 +219,7 @@ module _ (R : ℕ) where
   guard-each-small c s (y ∷ ys) p =
       ((and-opt-small (y .guard) (guard (any (a· c))) (p .0 .0) s, p .0 .1), guard-each-small c s ys (p .1))
 
-  -- What stands over a Boolean of the tree.
+  -- Goto, nonconsecutive and [*m:$] have the atom of their operand, whose node is one of the tree.
   over-small : (s : Seq) → Ranged s → (f : ℕ → List SeqAlt) → ((b : ℕ) → b < 65536 → AltsSmall (f b)) → AltsSmall (over (operand s) f)
   unfolding Ranged
   over-small (atom n a) u f p = p a u
@@ -225,6 +230,7 @@ module _ (R : ℕ) where
   over-small (throughout n c s) u f p = tt
   over-small (within n s₁ s₂) u f p = tt
 
+  -- All alternatives of a tree.
   expand-small : (s : Seq) → Ranged s → AltsSmall (expand s)
   unfolding Ranged
   expand-small (atom n a) u = single-small (BoolTerm a) u
@@ -242,7 +248,7 @@ module _ (R : ℕ) where
   expand-small (throughout n c s) u = guard-each-small c (u .0) (expand s) (expand-small s (u .1))
   expand-small (within n s₁ s₂) u = tt
 
-  -- The choice at the root.
+  -- The choice at the root: one alternative after the other, then their OR.
   lone-bounded : (g : Guard) → GuardSmall g → (ss : List SeqStep) → Each StepSmall ss → (n : ℕ) → Bounded n (lone-or-pipeline g ss n)
   lone-bounded unguarded p [] s n = pipeline-bounded unguarded tt [] s n
   lone-bounded unguarded p (x ∷ []) s n = go (x .term) (s .0)
@@ -259,7 +265,7 @@ module _ (R : ℕ) where
   lone-bounded unguarded p (x ∷ y ∷ ss) s n = pipeline-bounded unguarded tt (x ∷ y ∷ ss) s n
   lone-bounded (guard e) p ss s n = pipeline-bounded (guard e) p ss s n
 
-  -- One signal, and those of the later ones.
+  -- One alternative's signal in front of the others'.
   signals-bounded : (n : ℕ) (o : Synth) (p : Signals) → Bounded n o → SignalsBounded (n + length (o .stores)) p
       → SignalsBounded n (signals (o .stores ++ p .stores) (o .cur ∷ p .curs))
   signals-bounded n o p first later l =
@@ -287,7 +293,7 @@ module _ (R : ℕ) where
   choice-bounded alts s n l =
       let (stores, curs) = match-sigs-bounded alts s n l in (stores, any-of-small (match-sigs alts n .curs) curs)
 
-  -- A root within.
+  -- A root within: the further delays, a pair, the pairs of one alternative of seq2, all pairs, then their OR.
   slide-bounded : (d n : ℕ) (acc cur : Expr) → Small acc → Small cur → Bounded n (slide n d acc cur)
   slide-bounded zero n acc cur p q = λ l. (tt, p)
   slide-bounded (suc d) n acc cur p q =
@@ -337,6 +343,10 @@ module _ (R : ℕ) where
   one-of-small [] q = tt
   one-of-small (e ∷ es) q = or-all-small es e (q .0) (q .1)
 
+  -- A root that is no within.
+  expanded-bounded : (s : Seq) → Ranged s → (n : ℕ) → Bounded n (choice (expand s) n)
+  expanded-bounded s u n = choice-bounded (expand s) (expand-small s u) n
+
   -- A lowered tree uses registers that it makes itself, and atoms below 65,536.
   pub a-lowered-tree-is-bounded : (s : Seq) → Ranged s → (n : ℕ) → n + length (synth-seq-match s n .stores) ≤ R
       → SynthUses R 65536 (synth-seq-match s n)
@@ -344,9 +354,9 @@ module _ (R : ℕ) where
   a-lowered-tree-is-bounded (within k x y) u n l =
       let (stores, curs) = all-pairs-bounded (expand x) (expand y) (expand-small x (u .0)) (expand-small y (u .1)) n l in
       (stores, one-of-small (all-pairs (expand x) (expand y) n .curs) curs)
-  a-lowered-tree-is-bounded (atom k a) u n l = choice-bounded (expand (atom k a)) (expand-small (atom k a) u) n l
-  a-lowered-tree-is-bounded (delay k x y m max) u n l = choice-bounded (expand (delay k x y m max)) (expand-small (delay k x y m max) u) n l
-  a-lowered-tree-is-bounded (consec k x m max) u n l = choice-bounded (expand (consec k x m max)) (expand-small (consec k x m max) u) n l
-  a-lowered-tree-is-bounded (goto k x c) u n l = choice-bounded (expand (goto k x c)) (expand-small (goto k x c) u) n l
-  a-lowered-tree-is-bounded (nonconsec k x c) u n l = choice-bounded (expand (nonconsec k x c)) (expand-small (nonconsec k x c) u) n l
-  a-lowered-tree-is-bounded (throughout k c x) u n l = choice-bounded (expand (throughout k c x)) (expand-small (throughout k c x) u) n l
+  a-lowered-tree-is-bounded (atom k a) u n l = expanded-bounded (atom k a) u n l
+  a-lowered-tree-is-bounded (delay k x y m max) u n l = expanded-bounded (delay k x y m max) u n l
+  a-lowered-tree-is-bounded (consec k x m max) u n l = expanded-bounded (consec k x m max) u n l
+  a-lowered-tree-is-bounded (goto k x c) u n l = expanded-bounded (goto k x c) u n l
+  a-lowered-tree-is-bounded (nonconsec k x c) u n l = expanded-bounded (nonconsec k x c) u n l
+  a-lowered-tree-is-bounded (throughout k c x) u n l = expanded-bounded (throughout k c x) u n l

@@ -46,11 +46,13 @@ a-listing-has-its-registers n R o few l u =
     ∙ ap length (the-stores-take-their-values [] [] R 65536 none n o u (omega arith))
     ∙ length-map (o .stores) (λ s. value [] [] (s .from))
 
+-- Stores are counted part by part.
 registers-append : (xs ys : List ℕ) → registers (xs ++ ys) ≡ registers xs + registers ys
 unfolding registers
 registers-append [] ys = omega arith
 registers-append (x ∷ xs) ys = rw (registers-append xs ys) (omega arith)
 
+-- As long as the count stays small, a store's number fits its word, and the word is counted.
 few-stores : (n : ℕ) (ss : List Store) (ws : List ℕ) → n + registers (store-words n ss ++ ws) ≤ 65536 → n + length ss ≤ 65536
 unfolding registers pick
 few-stores n [] ws l = omega arith
@@ -77,11 +79,13 @@ abbrev Operates : ℕ → ℕ → ℕ → Type 0
 Operates w h h′ = (0 < operation w) × (operation w < 9) × (row-of (operation w) .takes ≤ h) × (height h w ≡ h′)
 
 module _ (count : ℕ) (few : count ≤ 65536) where
+  -- A word that fits leaves the check to the words behind it.
   passes-on : (w : ℕ) (ws : List ℕ) (k h : ℕ) → word-fits count k h w ≡ true → operation w < 14
       → Passes count ws (k + pick (is-store w) 1 0) (height h w) → Passes count (w ∷ ws) k h
   unfolding check-from pick
   passes-on w ws k h fits l rest place = rw (fits, ne-eqb (operation w) 14 (λ e. omega arith)) (rest (place + 1))
 
+  -- So does an operation whose operands are there.
   operator-passes : (w : ℕ) (ws : List ℕ) (k h h′ : ℕ) → Operates w h h′ → argument-fits count k w ≡ true
       → Passes count ws k h′ → Passes count (w ∷ ws) k h
   unfolding word-fits operands-fit pick
@@ -95,6 +99,7 @@ module _ (count : ℕ) (few : count ≤ 65536) where
       ) in
       passes-on w ws k h fitting (omega arith) (rw (below-9-is-no-store w l, add-zero, leaves) rest)
 
+  -- "atom number below 65,536 for 1, register number below 65,536 for 2" and below the count of stores
   atom-fits : (k a : ℕ) → a < 65536 → argument-fits count k (word 1 a) ≡ true
   unfolding argument-fits pick
   atom-fits k a l = rw (operation-of-word 1 a (omega arith), argument-of-word 1 a (omega arith), lt-ltb a 65536 l)
@@ -157,6 +162,7 @@ module _ (count : ℕ) (few : count ≤ 65536) where
       ) in
       passes-on w ws n 1 fits (omega arith) (rw (stores, takes, add-one n) rest)
 
+  -- "the stores count 0, 1, 2 and so on in order of creation"
   stores-pass : (n : ℕ) (ss : List Store) → Each (StoreUses count 65536) ss → n + length ss ≤ 65536 → (ws : List ℕ)
       → Passes count ws (n + length ss) 0 → Passes count (store-words n ss ++ ws) n 0
   stores-pass n [] u l ws rest = rw add-zero at rest

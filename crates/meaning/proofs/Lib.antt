@@ -12,3 +12,9 @@ pub mod EveryAlternative
 pub mod Rules
 pub mod Accepted
 pub mod ListingAnswer
+pub mod Uses
+pub mod Operations
+pub mod Evaluation
+pub mod Emitted
+pub mod Bounds
+pub mod Ticking

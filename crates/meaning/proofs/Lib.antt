@@ -2,10 +2,11 @@ pub mod Nodes
 pub mod Values
 pub mod Acceptable
 pub mod Counting
-pub mod StarredRows
+pub mod AllStarredRows
 pub mod Taken
 pub mod Formed
 pub mod Ranges
+pub mod NotVisited
 pub mod Walks
 pub mod Members
 pub mod EveryAlternative

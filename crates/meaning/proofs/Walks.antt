@@ -110,12 +110,6 @@ a-walked-tree-is-walkable room d s c e = passed room d s c e .0
 pub the-walk-counts-the-expansion : (room d : ℕ) (s : Seq) (c : Counts) → walk room d s ≡ Counted c → c ≡ counts (expand s)
 the-walk-counts-the-expansion room d s c e = passed room d s c e .1
 
--- 01, "Visiting the operand of [*0]": the walk's answer is the same over every operand.
-pub the-operand-of-no-repetition-is-not-visited : (room d n m : ℕ) (s s′ : Seq)
-    → walk-in room d (consec n s m (finite 0)) ≡ walk-in room d (consec n s′ m (finite 0))
-unfolding walk-in
-the-operand-of-no-repetition-is-not-visited room d n m s s′ = refl
-
 -- 9, 10 and 11 of a root within.
 limited-within-counted : (room n : ℕ) (xs ys : List SeqAlt) (c : Counts) → limited-within room n xs ys ≡ Counted c
     → Pairable room xs ys × (c ≡ pair-counts xs ys)

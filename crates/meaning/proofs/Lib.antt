@@ -2,3 +2,8 @@ pub mod Nodes
 pub mod Values
 pub mod Acceptable
 pub mod StarredRows
+pub mod Bits
+pub mod On
+pub mod RunLaws
+pub mod Since
+pub mod MachineRuns

@@ -7,3 +7,7 @@ pub mod On
 pub mod RunLaws
 pub mod Since
 pub mod MachineRuns
+pub mod Joining
+pub mod HopRuns
+pub mod AlternativeRuns
+pub mod PipelineRuns

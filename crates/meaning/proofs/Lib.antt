@@ -11,3 +11,4 @@ pub mod Joining
 pub mod HopRuns
 pub mod AlternativeRuns
 pub mod PipelineRuns
+pub mod Members

@@ -12,3 +12,4 @@ pub mod HopRuns
 pub mod AlternativeRuns
 pub mod PipelineRuns
 pub mod Members
+pub mod ExpansionRuns

@@ -13,3 +13,7 @@ pub mod AlternativeRuns
 pub mod PipelineRuns
 pub mod Members
 pub mod ExpansionRuns
+pub mod AnyOn
+pub mod RootRuns
+pub mod WithinRuns
+pub mod MatchRuns

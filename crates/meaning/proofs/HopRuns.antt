@@ -3,16 +3,15 @@
 -- Assumes that the stores drive their registers, and that a hop under a guard is fixed (refusal 7).
 use mathlib.Core.Bool.{Bool}
 use mathlib.Core.Path.{_≡_, refl, subst}
-use mathlib.Core.Logic.{_↔_, _⊎_, inl, inr, Iff·rfl, Iff·trans, and-true, Iff·symm}
-use mathlib.Core.List.{List, [], _∷_}
+use mathlib.Core.Logic.{_↔_, _⊎_, inl, inr, Iff·rfl}
 use Prim.Native.Nat.{ℕ, zero, suc, _+_, _-_, _≤_, _<_}
 use native.Mathlib.Omega.{arith}
 use native.Mathlib.Decide.{ℕ-discrete, decLe}
 use lib.ListN.{length}
 use lib.Dec.{T}
-use Rattle.meaning.specs.Expression.{Expr, r·, and·, or·, Synth}
+use Rattle.meaning.specs.Expression.{Expr, r·, or·, Synth}
 use Rattle.meaning.specs.Alternative.{Guard, unguarded, guard}
-use Rattle.meaning.specs.Pipeline.{guard-and, delays, latch, latch-or-now, hop-over}
+use Rattle.meaning.specs.Pipeline.{guard-and, delays, latch, hop-over}
 use Rattle.meaning.specs.declared.SeqHop.{SeqHop}
 use Rattle.meaning.specs.declared.SeqHop.the-variants.{Fixed, AtLeast}
 use Rattle.meaning.proofs.Values.{Driven, Drives}

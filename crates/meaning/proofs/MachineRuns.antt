@@ -1,20 +1,19 @@
 -- The three machines: each is on exactly where a run of its kind ends that began where the machine was activated.
 -- Example: `goto-fsm b 2 n act` is on at the second b from an activation on. Assumes that the machine's stores drive its registers.
 use mathlib.Core.Bool.{Bool, not}
-use mathlib.Core.Path.{_≡_, refl, subst}
+use mathlib.Core.Path.{refl, subst}
 use mathlib.Core.Logic.{_↔_, _⊎_, inl, inr, Iff·rfl}
-use mathlib.Core.List.{List}
-use Prim.Native.Nat.{ℕ, zero, suc, _+_, _-_, _≤_, _<_}
+use Prim.Native.Nat.{ℕ, zero, suc, _+_, _-_, _≤_}
 use native.Mathlib.Omega.{arith}
 use native.Mathlib.Decide.{ℕ-discrete}
 use lib.ListN.{length}
 use lib.Dec.{T}
 use Rattle.meaning.specs.Tree.{below}
-use Rattle.meaning.specs.Match.{Runs, Times, Occurs, Always, Never, UntilFirst, GotoRuns, NonconsecRuns}
-use Rattle.meaning.specs.Expression.{Expr, a·, r·, any, not·, and·, or·, Synth}
+use Rattle.meaning.specs.Match.{Runs, Times, Occurs, Never, UntilFirst, GotoRuns, NonconsecRuns}
+use Rattle.meaning.specs.Expression.{Expr, r·, and·, or·, Synth}
 use Rattle.meaning.specs.Machines.{bb, nbb, goto-stages, goto-fsm, extension, nonconsec-fsm, run-stages, consec-run-fsm}
 use Rattle.meaning.proofs.Values.{Driven, Drives}
-use Rattle.meaning.proofs.On.{On, a-delay-register-is-one-tick-late, a-register-takes-its-store, drives-first, drives-rest}
+use Rattle.meaning.proofs.On.{On, a-delay-register-is-one-tick-late, drives-first, drives-rest}
 use Rattle.meaning.proofs.RunLaws.{NoEmptyRun, first-of-times, times-no-empty, occurs-in-a-row}
 use Rattle.meaning.proofs.Since.{Since, a-held-register, a-held-store}
 

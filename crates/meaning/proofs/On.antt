@@ -3,7 +3,7 @@
 -- Example: `and· (r· 0) (any (a· 1))` is on at t where register 0 and atom 1 are 1 at t.
 use mathlib.Core.Bool.{Bool, not}
 use mathlib.Core.Path.{_≡_, refl, subst, subst⁻¹}
-use mathlib.Core.Logic.{_↔_, _⊎_, inl, inr, Iff·rfl, Iff·trans, Iff·and}
+use mathlib.Core.Logic.{_↔_, _⊎_, Iff·rfl, Iff·trans, Iff·and}
 use mathlib.Core.List.{List, [], _∷_, _++_}
 use Prim.Native.Nat.{ℕ, zero, suc, _+_}
 use native.Mathlib.Nat.{add-suc, add-zero, suc-add}

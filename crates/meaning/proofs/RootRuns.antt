@@ -4,18 +4,17 @@
 use mathlib.Core.Bool.{Bool}
 use mathlib.Core.Path.{_≡_, refl, subst, subst⁻¹}
 use mathlib.Core.Logic.{_↔_, _⊎_, inl, inr, Iff·rfl, Iff·trans}
-use mathlib.Core.List.{List, [], _∷_, _++_}
-use Prim.Native.Nat.{ℕ, zero, suc, _+_, _≤_, _<_}
+use mathlib.Core.List.{List, [], _∷_}
+use Prim.Native.Nat.{ℕ, zero, suc, _+_, _≤_}
 use native.Mathlib.Omega.{arith}
 use lib.ListN.{length}
 use Rattle.meaning.specs.Tree.{Seq, atom, delay, consec, goto, nonconsec, throughout, within}
-use Rattle.meaning.specs.Match.{Runs, Always, Match}
-use Rattle.meaning.specs.Expression.{Expr, a·, any, Synth}
-use Rattle.meaning.specs.Alternative.{Guard, unguarded, guard, and-opt, SeqAlt, step, joined, guard-each, expand}
-use Rattle.meaning.specs.Root.{Signals, lone-or-pipeline, match-sigs, choice}
+use Rattle.meaning.specs.Match.{Match}
+use Rattle.meaning.specs.Expression.{Expr, a·, any}
+use Rattle.meaning.specs.Alternative.{Guard, unguarded, guard, and-opt, SeqAlt, step, guard-each, expand}
+use Rattle.meaning.specs.Root.{lone-or-pipeline, match-sigs, choice}
 use Rattle.meaning.specs.declared.SeqTerm.{SeqTerm}
 use Rattle.meaning.specs.declared.SeqTerm.the-variants.{Bool as BoolTerm, Goto, Nonconsec, ConsecAtLeast, Empty}
-use Rattle.meaning.specs.declared.SeqHop.{SeqHop}
 use Rattle.meaning.specs.declared.SeqHop.the-variants.{Fixed}
 use Rattle.meaning.specs.declared.SeqStep.{SeqStep}
 use Rattle.meaning.proofs.Values.{Drives}

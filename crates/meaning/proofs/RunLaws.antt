@@ -2,7 +2,7 @@
 -- Example: `Times 2 R` is a run of R and then another; it is taken apart at either end.
 use mathlib.Core.Bool.{Bool}
 use mathlib.Core.Path.{_≡_, refl, subst, subst⁻¹}
-use mathlib.Core.Logic.{_↔_, inl, inr}
+use mathlib.Core.Logic.{_↔_}
 use Prim.Native.Nat.{ℕ, zero, suc, _+_, _≤_, _<_}
 use native.Mathlib.Omega.{arith}
 use native.Mathlib.Nat.{add-zero}

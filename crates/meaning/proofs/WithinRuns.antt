@@ -10,11 +10,11 @@ use native.Mathlib.Omega.{arith}
 use native.Mathlib.Decide.{ℕ-discrete}
 use lib.ListN.{length}
 use lib.Dec.{T, leb, leb→le, le→leb}
-use Rattle.words.specs.Choice.{pick, pick-case}
+use Rattle.words.specs.Choice.{pick-case}
 use Rattle.meaning.specs.Tree.{Seq, within}
-use Rattle.meaning.specs.Match.{Runs, Join, Inside, Match}
-use Rattle.meaning.specs.Expression.{Expr, r·, and·, or·, Synth}
-use Rattle.meaning.specs.Alternative.{Guard, unguarded, SeqAlt, expand}
+use Rattle.meaning.specs.Match.{Runs, Join, Match}
+use Rattle.meaning.specs.Expression.{Expr, r·, or·, Synth}
+use Rattle.meaning.specs.Alternative.{unguarded, SeqAlt, expand}
 use Rattle.meaning.specs.Pipeline.{synth-seq-pipeline}
 use Rattle.meaning.specs.Root.{Signals, signals, hop-length, hop-sum, window-len, slide, fitting-pair, pairs, all-pairs, synth-within}
 use Rattle.meaning.specs.declared.SeqTerm.{SeqTerm}

@@ -19,6 +19,7 @@ use Rattle.meaning.proofs.RunLaws.{Forward, NoEmptyRun, Included, times
 use Rattle.meaning.proofs.Joining.{JoinOver, join-over-forward, join-over-no-empty, join-over-no-empty-right, join-over-included, join-over-is-associative}
 use Rattle.meaning.proofs.MachineRuns.{LongRuns, goto-no-empty}
 
+-- A term is Empty or not.
 pub not-empty-or-empty : (x : SeqTerm) → NotEmpty x ⊎ IsEmpty x
 not-empty-or-empty (BoolTerm a) = inl tt
 not-empty-or-empty (Goto b k) = inl tt
@@ -31,16 +32,17 @@ abbrev pub AllEmptiesFit : List SeqStep → Type 0
 AllEmptiesFit [] = ⊥
 AllEmptiesFit (s ∷ ss) = EmptiesFit (s .term) ss
 
+-- An alternative that passed 12 has this.
 pub rule-12-fits : (ss : List SeqStep) → Rule12 ss → AllEmptiesFit ss
 rule-12-fits [] q = absurd q
 rule-12-fits (s ∷ ss) q = q .1
 
 -- Steps in a row fit part by part, and the hop between them fits the first term of the second part.
-pub emptiesFit-append : (p : SeqTerm) (ls : List SeqStep) (x : SeqTerm) (h : SeqHop) (rs : List SeqStep)
+pub empties-fit-append : (p : SeqTerm) (ls : List SeqStep) (x : SeqTerm) (h : SeqHop) (rs : List SeqStep)
     → EmptiesFit p (ls ++ step x h ∷ rs) → EmptiesFit p ls × (IsEmpty x → FixedFrom1 h) × EmptiesFit x rs
-emptiesFit-append p [] x h rs F = (tt, F .1, F .2)
-emptiesFit-append p (s ∷ ls) x h rs F =
-    let (l, m, r) = emptiesFit-append (s .term) ls x h rs (F .2) in ((F .0, F .1, l), m, r)
+empties-fit-append p [] x h rs F = (tt, F .1, F .2)
+empties-fit-append p (s ∷ ls) x h rs F =
+    let (l, m, r) = empties-fit-append (s .term) ls x h rs (F .2) in ((F .0, F .1, l), m, r)
 
 module _ (σ : ℕ → ℕ → Bool) where
   -- The runs of a term; a count of 0 is taken as 1.
@@ -56,10 +58,12 @@ module _ (σ : ℕ → ℕ → Bool) where
   FollowedBy R [] = R
   FollowedBy R (s ∷ ss) = FollowedBy (JoinOver (s .hop) R (TermRuns (s .term))) ss
 
+  -- The runs of an alternative.
   abbrev pub AlternativeRuns : List SeqStep → Runs
   AlternativeRuns [] i j = ⊥
   AlternativeRuns (s ∷ ss) i j = FollowedBy (TermRuns (s .term)) ss i j
 
+  -- Only Empty has an empty run.
   pub term-no-empty : (x : SeqTerm) → NotEmpty x → NoEmptyRun (TermRuns x)
   term-no-empty (BoolTerm a) p i j (e, y) = omega arith
   term-no-empty (Goto b k) p i j h = goto-no-empty σ b (below k) i j h
@@ -68,6 +72,7 @@ module _ (σ : ℕ → ℕ → Bool) where
   term-no-empty (ConsecAtLeast b k) p i j (suc c, l, h) = times-no-empty (Occurs σ b) (λ i j (e, y). omega arith) c i j h
   term-no-empty Empty p i j h = absurd p
 
+  -- Terms, and what is followed by terms, go forward.
   pub term-forward : (x : SeqTerm) → Forward (TermRuns x)
   term-forward (BoolTerm a) i j h = omega (arith, term-no-empty (BoolTerm a) tt i j h)
   term-forward (Goto b k) i j h = omega (arith, term-no-empty (Goto b k) tt i j h)
@@ -81,6 +86,7 @@ module _ (σ : ℕ → ℕ → Bool) where
       followed-forward ss (JoinOver (s .hop) R (TermRuns (s .term)))
       (join-over-forward (s .hop) R (TermRuns (s .term)) p (term-forward (s .term)))
 
+  -- What begins with a run that is not empty is not empty.
   pub followed-no-empty : (ss : List SeqStep) (R : Runs) → NoEmptyRun R → NoEmptyRun (FollowedBy R ss)
   followed-no-empty [] R p = p
   followed-no-empty (s ∷ ss) R p =
@@ -92,12 +98,14 @@ module _ (σ : ℕ → ℕ → Bool) where
   alternative-no-empty [] F = absurd F
   alternative-no-empty (s ∷ ss) F = followed-no-empty ss (TermRuns (s .term)) (term-no-empty (s .term) (F .0))
 
+  -- More runs are followed by more.
   pub followed-included : (ss : List SeqStep) (R R′ : Runs) → Included R R′ → Included (FollowedBy R ss) (FollowedBy R′ ss)
   followed-included [] R R′ f = f
   followed-included (s ∷ ss) R R′ f =
       let X = TermRuns (s .term) in
       followed-included ss (JoinOver (s .hop) R X) (JoinOver (s .hop) R′ X) (join-over-included (s .hop) R X R′ X f (λ i j x. x))
 
+  -- To follow by steps in a row is to follow by the one part, then by the other.
   followed-append : (ls rs : List SeqStep) (R : Runs) → FollowedBy R (ls ++ rs) ≡ FollowedBy (FollowedBy R ls) rs
   followed-append [] rs R = refl
   followed-append (s ∷ ls) rs R = followed-append ls rs (JoinOver (s .hop) R (TermRuns (s .term)))
@@ -142,5 +150,5 @@ module _ (σ : ℕ → ℕ → Bool) where
       middle =
           elim (not-empty-or-empty (x .term)) [
             | inl w ↦ inl (term-no-empty (x .term) w)
-            | inr w ↦ inr (w, emptiesFit-append (s .term) l (x .term) h r F .1 w)
+            | inr w ↦ inr (w, empties-fit-append (s .term) l (x .term) h r F .1 w)
           ]

@@ -19,7 +19,7 @@ use Rattle.meaning.specs.declared.SeqStep.{SeqStep}
 use Rattle.meaning.proofs.Acceptable.{In, Regular}
 use Rattle.meaning.proofs.RunLaws.{SameRuns, join-included}
 use Rattle.meaning.proofs.Joining.{JoinOver, join-over-included}
-use Rattle.meaning.proofs.AlternativeRuns.{AllEmptiesFit, emptiesFit-append, TermRuns, AlternativeRuns, a-joined-alternative-means-the-join}
+use Rattle.meaning.proofs.AlternativeRuns.{AllEmptiesFit, empties-fit-append, TermRuns, AlternativeRuns, a-joined-alternative-means-the-join}
 use Rattle.meaning.proofs.Members.{in-join-lefts, joined-in, in-join-hops, hops-allow-the-range, in-copies-from, in-with-empty, below-is-less, Some, there-is-a-copy, there-is-an-alternative, of-every-copy, of-every-alternative}
 
 -- No alternative is without a step.
@@ -56,7 +56,7 @@ EveryFits alts = (y : SeqAlt) → In y alts → AllEmptiesFit (y .steps)
 parts-fit : (h : SeqHop) (l r : List SeqStep) → HasStep l → HasStep r → AllEmptiesFit (l ++ rehop h r) → AllEmptiesFit l × AllEmptiesFit r
 parts-fit h [] r p q F = absurd p
 parts-fit h (s ∷ l) [] p q F = absurd q
-parts-fit h (s ∷ l) (x ∷ r) p q F = let (a, b, c) = emptiesFit-append (s .term) l (x .term) h r F in (a, c)
+parts-fit h (s ∷ l) (x ∷ r) p q F = let (a, b, c) = empties-fit-append (s .term) l (x .term) h r F in (a, c)
 
 lefts-fit : (h : SeqHop) (ls rs : List SeqAlt) → Proper ls → Proper rs → EveryFits (join-lefts h ls rs) → EveryFits ls
 lefts-fit h ls rs (o, L) ((r, q), R) F l p = parts-fit h (l .steps) (r .steps) (L l p) (R r q) (F (joined h l r) (joined-in h ls rs l r p q)) .0

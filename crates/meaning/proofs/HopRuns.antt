@@ -20,7 +20,7 @@ use Rattle.meaning.proofs.On.{On, a-delay-register-is-one-tick-late, dr
 use Rattle.meaning.proofs.Since.{Since, a-held-register}
 use Rattle.meaning.proofs.Joining.{Reaches}
 
--- 7, of a hop.
+-- 7, of a hop: under a guard it is fixed.
 abbrev pub FixedIfGuarded : Guard → SeqHop → Type 0
 FixedIfGuarded unguarded h = Unit {0}
 FixedIfGuarded (guard c) h = IsFixed h
@@ -35,6 +35,7 @@ module _ (σ Reg : ℕ → ℕ → Bool) where
   abbrev pub GuardAfter : Guard → ℕ → ℕ → Type 0
   GuardAfter g u s = (m : ℕ) → u < m → m ≤ s → GuardOn g m
 
+  -- A guarded expression is on where it is on and the guard holds.
   pub guard-and-is-both : (g : Guard) (e : Expr) (t : ℕ) → On σ Reg (guard-and g e) t ↔ (On σ Reg e t × GuardOn g t)
   guard-and-is-both unguarded e t = (λ h. (h, tt), λ h. h .0)
   guard-and-is-both (guard c) e t = Iff·rfl
@@ -87,10 +88,11 @@ module _ (σ Reg : ℕ → ℕ → Bool) where
       register : T (Reg t r) ↔ Since (On σ Reg e) (λ m. Unit {0}) t
       register = a-held-register σ Reg r (or· (r· r) e) d (On σ Reg e) (λ m. Unit {0}) form t
 
-  -- What a hop's signal says at tick s: the expression was on at a tick u from which the hop reaches s.
+  -- The expression was on at a tick u from which the hop reaches s, and the guard held from there on.
   abbrev pub HopFrom : Guard → SeqHop → Expr → ℕ → Type 0
   HopFrom g h e s = (u : ℕ) × On σ Reg e u × Reaches h u s × GuardAfter g u s
 
+  -- The signal of a hop is on at the ticks that the hop reaches.
   pub a-hop-reaches : (g : Guard) (h : SeqHop) → FixedIfGuarded g h → (n : ℕ) (e : Expr) → Drives σ Reg n (hop-over g h n e .stores) → (s : ℕ)
       → On σ Reg (hop-over g h n e .cur) s ↔ HopFrom g h e s
   a-hop-reaches g (Fixed d) F n e D s =

@@ -24,12 +24,14 @@ JoinOver h L R i j = (d : ℕ) × Allows h d × Join d L R i j
 abbrev pub Reaches : SeqHop → ℕ → ℕ → Type 0
 Reaches h u s = (d : ℕ) × Allows h d × (s ≡ u + d)
 
+-- A fixed hop of 1 or more takes a tick.
 pub fixed-from-1-is-positive : (h : SeqHop) (d : ℕ) → FixedFrom1 h → Allows h d → 0 < d
 fixed-from-1-is-positive (Fixed zero) d F q = absurd F
 fixed-from-1-is-positive (Fixed (suc n)) d F q = omega arith
 fixed-from-1-is-positive (AtLeast m) d F q = absurd F
 
 module _ (h : SeqHop) (L R : Runs) where
+  -- A join over a hop goes forward where its parts do; it is not empty where the left run is not.
   pub join-over-forward : Forward L → Forward R → Forward (JoinOver h L R)
   join-over-forward p q i j (d, a, x) = join-forward d L R p q i j x
 
@@ -41,6 +43,7 @@ module _ (h : SeqHop) (L R : Runs) where
   join-over-no-empty-right F p q i j (zero, a, x) = absurd (omega (arith, fixed-from-1-is-positive h zero F a))
   join-over-no-empty-right F p q i j (suc d, a, (k, x, y)) = omega (arith, p i k x, q (k + d) j y)
 
+  -- What holds of the parts holds of the join.
   pub join-over-included : (L′ R′ : Runs) → Included L L′ → Included R R′ → Included (JoinOver h L R) (JoinOver h L′ R′)
   join-over-included L′ R′ f g i j (d, a, x) = (d, a, join-included d L L′ R R′ f g i j x)
 
@@ -81,7 +84,7 @@ join-is-associative (suc d) zero A B X p q (inr c) i j = absurd (omega arith)
 join-is-associative (suc d) (suc e) A B X p q c i j =
     (λ (m, (k, a, b), x). (k, a, (m, b, x)), λ (k, a, (m, b, x)). (m, (k, a, b), x))
 
--- The same over hops.
+-- The same of joins over hops.
 pub join-over-is-associative : (h g : SeqHop) (A B X : Runs) → Forward A → Forward X
     → NoEmptyRun B ⊎ (FixedFrom1 h × FixedFrom1 g) → (i j : ℕ)
     → JoinOver g (JoinOver h A B) X i j ↔ JoinOver h A (JoinOver g B X) i j

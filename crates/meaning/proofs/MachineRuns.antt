@@ -21,6 +21,7 @@ use Rattle.meaning.proofs.Since.{Since, a-held-register, a-held-store}
 abbrev pub LongRuns : (ℕ → ℕ → Bool) → ℕ → ℕ → Runs
 LongRuns σ b m i j = (c : ℕ) × (m ≤ c) × Times c (Occurs σ b) i j
 
+-- A run up to the first b has a tick, and so has one up to the count-th.
 pub until-first-no-empty : (σ : ℕ → ℕ → Bool) (b : ℕ) → NoEmptyRun (UntilFirst σ b)
 until-first-no-empty σ b i j (k, l, e, N, y) = omega arith
 
@@ -37,10 +38,11 @@ module _ (σ Reg : ℕ → ℕ → Bool) where
     abbrev Off : ℕ → Type 0
     Off t = T (not (σ t b))
 
-    -- `avail_0` of a goto: an activation waits for its first b.
+    -- An activation waits for its first b.
     abbrev Waiting : Expr → ℕ → Type 0
     Waiting act t = (s : ℕ) × On σ Reg act s × (s ≤ t) × Never σ b s t
 
+    -- `avail_0` of a goto: there was an activation, and no b since.
     the-first-goto-register-waits : (r : ℕ) (act : Expr) → Driven σ Reg r (and· (or· (r· r) act) (nbb b)) → (t : ℕ)
         → On σ Reg (or· (r· r) act) t ↔ Waiting act t
     the-first-goto-register-waits r act d t = (outward, inward)
@@ -70,7 +72,7 @@ module _ (σ Reg : ℕ → ℕ → Bool) where
               | no w ↦ inl (register .1 (s, (x, N s (omega arith) (omega arith)), omega arith, λ m p q. N m (omega arith) q))
             ]
 
-    -- A later register of a goto: b with `avail` at some tick before, and no b since.
+    -- A later register of a goto: e was on at an earlier tick, and no b since.
     a-goto-register-holds : (r : ℕ) (e : Expr) → Driven σ Reg r (or· e (and· (nbb b) (r· r))) → (t : ℕ) → T (Reg t r) ↔ Since (On σ Reg e) Off t
     a-goto-register-holds r e d t = a-held-register σ Reg r (or· e (and· (nbb b) (r· r))) d (On σ Reg e) Off form t
       where
@@ -80,10 +82,11 @@ module _ (σ Reg : ℕ → ℕ → Bool) where
           λ h. elim h [ inl x ↦ inl x | inr p ↦ inr (p .1, p .0) ],
         )
 
-    -- The b of the first register, at tick u, and then k further ones.
+    -- A b with `avail` at some tick, and then k further ones, the last at t.
     abbrev Counted : Expr → ℕ → ℕ → Type 0
     Counted avail k t = (u : ℕ) × On σ Reg (and· (bb b) avail) u × GotoRuns σ b k (suc u) (suc t)
 
+    -- The registers after the first count k further b's.
     goto-stages-count : (k n : ℕ) (avail : Expr) → Drives σ Reg n (goto-stages b n k avail .stores) → (t : ℕ)
         → On σ Reg (goto-stages b n k avail .cur) t ↔ Counted avail k t
     goto-stages-count zero n avail D t = (λ h. (t, h, refl), λ (u, x, e). subst (On σ Reg (and· (bb b) avail)) (omega arith) x)
@@ -195,6 +198,7 @@ module _ (σ Reg : ℕ → ℕ → Bool) where
             let (e, A) = occurs-in-a-row σ b c s (suc t) .0 xs in
             (s, (x, A s (omega arith) (omega arith)), omega arith, λ m p q. A m (omega arith) q)
 
+    -- k registers before the top one ask for k ticks more.
     run-stages-run : (k n : ℕ) (prior : Expr) → Drives σ Reg n (run-stages b k n prior .stores) → (t : ℕ)
         → On σ Reg (run-stages b k n prior .cur) t ↔ StartedBy prior (LongRuns σ b (suc k)) t
     run-stages-run zero n prior D t = the-top-register-runs n prior (D .0) t

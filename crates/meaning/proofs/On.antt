@@ -15,6 +15,7 @@ use Rattle.meaning.proofs.Bits.{and-is-both, or-is-either, either-iff}
 
 -- σ t a: atom a at tick t. Reg t r: register r at tick t.
 module _ (σ Reg : ℕ → ℕ → Bool) where
+  -- The bit of the expression is 1 at the tick.
   abbrev pub On : Expr → ℕ → Type 0
   On (a· a) t = T (σ t a)
   On (r· r) t = T (Reg t r)

@@ -18,9 +18,11 @@ Forward R = (i j : ℕ) → R i j → i ≤ j
 abbrev pub NoEmptyRun : Runs → Type 0
 NoEmptyRun R = (i j : ℕ) → R i j → i < j
 
+-- Every run of R is one of S.
 abbrev pub Included : Runs → Runs → Type 0
 Included R S = (i j : ℕ) → R i j → S i j
 
+-- R and S have the same runs.
 abbrev pub SameRuns : Runs → Runs → Type 0
 SameRuns R S = (i j : ℕ) → R i j ↔ S i j
 
@@ -32,15 +34,17 @@ first-of-times (suc c) R i j = (
   λ (k, x, (m, xs, y)). (m, first-of-times c R i m .1 (k, x, xs), y),
 )
 
+-- A repetition of runs that go forward goes forward.
 pub times-forward : (R : Runs) → Forward R → (c : ℕ) → Forward (Times c R)
 times-forward R p zero i j e = omega arith
 times-forward R p (suc c) i j (k, xs, x) = omega (arith, p k j x, times-forward R p c i k xs)
 
+-- One or more runs that are not empty make a run that is not.
 pub times-no-empty : (R : Runs) → NoEmptyRun R → (c : ℕ) → NoEmptyRun (Times (suc c) R)
 times-no-empty R p c i j (k, xs, x) =
     omega (arith, p k j x, times-forward R (λ i j y. omega (arith, p i j y)) c i k xs)
 
--- b at c ticks in a row.
+-- b repeated c times is b at each of c ticks in a row.
 pub occurs-in-a-row : (σ : ℕ → ℕ → Bool) (b c i j : ℕ) → Times c (Occurs σ b) i j ↔ ((j ≡ i + c) × Always σ b i j)
 occurs-in-a-row σ b zero i j = (λ e. (omega arith, λ k p q. absurd (omega arith)), λ (e, A). omega arith)
 occurs-in-a-row σ b (suc c) i j = (
@@ -55,6 +59,7 @@ occurs-in-a-row σ b (suc c) i j = (
   ),
 )
 
+-- A join of runs that go forward goes forward; it is not empty where the left run is not.
 pub join-forward : (d : ℕ) (L R : Runs) → Forward L → Forward R → Forward (Join d L R)
 join-forward zero L R p q i j (k, l, l′, x, y) = omega arith
 join-forward (suc d) L R p q i j (k, x, y) = omega (arith, p i k x, q (k + d) j y)
@@ -63,6 +68,7 @@ pub join-no-empty : (d : ℕ) (L R : Runs) → NoEmptyRun L → Forward R → No
 join-no-empty zero L R p q i j (k, l, l′, x, y) = omega arith
 join-no-empty (suc d) L R p q i j (k, x, y) = omega (arith, p i k x, q (k + d) j y)
 
+-- What holds of the parts of a join holds of the join.
 pub join-included : (d : ℕ) (L L′ R R′ : Runs) → Included L L′ → Included R R′ → Included (Join d L R) (Join d L′ R′)
 join-included zero L L′ R R′ f g i j (k, l, l′, x, y) = (k, l, l′, f i (suc k) x, g k j y)
 join-included (suc d) L L′ R R′ f g i j (k, x, y) = (k, f i k x, g (k + d) j y)

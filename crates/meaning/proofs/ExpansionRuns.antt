@@ -20,7 +20,7 @@ use Rattle.meaning.proofs.Acceptable.{In, Regular}
 use Rattle.meaning.proofs.RunLaws.{SameRuns, join-included}
 use Rattle.meaning.proofs.Joining.{JoinOver, join-over-included}
 use Rattle.meaning.proofs.AlternativeRuns.{AllEmptiesFit, empties-fit-append, TermRuns, AlternativeRuns, a-joined-alternative-means-the-join}
-use Rattle.meaning.proofs.Members.{in-join-lefts, joined-in, in-join-hops, hops-allow-the-range, in-copies-from, in-with-empty, below-is-less, Some, there-is-a-copy, there-is-an-alternative, of-every-copy, of-every-alternative}
+use Rattle.meaning.proofs.Members.{in-join-lefts, joined-in, in-join-hops, hops-allow-the-range, in-copies-from, in-with-empty, below-is-less, below-is-at-most-1-less, count-from-1, Some, there-is-a-copy, there-is-an-alternative, of-every-copy, of-every-alternative}
 
 -- No alternative is without a step.
 
@@ -28,6 +28,7 @@ abbrev HasStep : List SeqStep → Type 0
 HasStep [] = ⊥
 HasStep (s ∷ ss) = Unit {0}
 
+-- Steps in front are enough.
 has-step-append : (l r : List SeqStep) → HasStep l → HasStep (l ++ r)
 has-step-append [] r p = absurd p
 has-step-append (s ∷ l) r p = tt
@@ -36,6 +37,7 @@ has-step-append (s ∷ l) r p = tt
 abbrev Proper : List SeqAlt → Type 0
 Proper alts = Some alts × ((y : SeqAlt) → In y alts → HasStep (y .steps))
 
+-- The alternatives of a tree, and their copies, are so.
 proper : (s : Seq) → Regular s → Proper (expand s)
 proper s k = (
   there-is-an-alternative s k,
@@ -50,20 +52,24 @@ proper-copies base c (o, B) = (
 
 -- 12 holds of the parts where it holds of the whole.
 
+-- 12 of every alternative, but that one may begin with Empty.
 abbrev pub EveryFits : List SeqAlt → Type 0
 EveryFits alts = (y : SeqAlt) → In y alts → AllEmptiesFit (y .steps)
 
+-- .. of two joined alternatives
 parts-fit : (h : SeqHop) (l r : List SeqStep) → HasStep l → HasStep r → AllEmptiesFit (l ++ rehop h r) → AllEmptiesFit l × AllEmptiesFit r
 parts-fit h [] r p q F = absurd p
 parts-fit h (s ∷ l) [] p q F = absurd q
 parts-fit h (s ∷ l) (x ∷ r) p q F = let (a, b, c) = empties-fit-append (s .term) l (x .term) h r F in (a, c)
 
+-- .. of two joined lists
 lefts-fit : (h : SeqHop) (ls rs : List SeqAlt) → Proper ls → Proper rs → EveryFits (join-lefts h ls rs) → EveryFits ls
 lefts-fit h ls rs (o, L) ((r, q), R) F l p = parts-fit h (l .steps) (r .steps) (L l p) (R r q) (F (joined h l r) (joined-in h ls rs l r p q)) .0
 
 rights-fit : (h : SeqHop) (ls rs : List SeqAlt) → Proper ls → Proper rs → EveryFits (join-lefts h ls rs) → EveryFits rs
 rights-fit h ls rs ((l, p), L) (o, R) F r q = parts-fit h (l .steps) (r .steps) (L l p) (R r q) (F (joined h l r) (joined-in h ls rs l r p q)) .1
 
+-- .. and of copies.
 base-fits : (base : List SeqAlt) (c : ℕ) → Proper base → EveryFits (copies base c) → EveryFits base
 base-fits base zero B F = F
 base-fits base (suc c) B F = base-fits base c B (lefts-fit (Fixed 1) (copies base c) base (proper-copies base c B) B F)
@@ -78,19 +84,12 @@ an-operand-is-an-atom (nonconsec n s k) B = absurd B
 an-operand-is-an-atom (throughout n c s) B = absurd B
 an-operand-is-an-atom (within n s₁ s₂) B = absurd B
 
-at-most-1-more : (m : ℕ) → m ≤ suc (below m)
-at-most-1-more zero = omega arith
-at-most-1-more (suc m) = omega arith
-
-count-from-1 : (k : ℕ) → 1 ≤ k → suc (below k) ≡ k
-count-from-1 zero l = omega arith
-count-from-1 (suc k) l = refl
-
 module _ (σ : ℕ → ℕ → Bool) where
   -- The runs of one of the alternatives.
   abbrev pub RunsOfAny : List SeqAlt → Runs
   RunsOfAny alts i j = (y : SeqAlt) × In y alts × AlternativeRuns σ (y .steps) i j
 
+  -- A single term.
   single-runs : (x : SeqTerm) → SameRuns (TermRuns σ x) (RunsOfAny (single x ∷ []))
   single-runs x i j = (λ h. (single x, inl refl, h), inward)
     where
@@ -98,14 +97,13 @@ module _ (σ : ℕ → ℕ → Bool) where
       inward (y, inl e, h) = subst (λ (z : SeqAlt). AlternativeRuns σ (z .steps) i j) e h
       inward (y, inr m, h) = absurd m
 
-  -- Joined lists.
-
   -- The choice of the alternatives, taken out of a join.
   choices-of-a-join : (d : ℕ) (ls rs : List SeqAlt) (i j : ℕ) → Join d (RunsOfAny ls) (RunsOfAny rs) i j
       → (l r : SeqAlt) × In l ls × In r rs × Join d (AlternativeRuns σ (l .steps)) (AlternativeRuns σ (r .steps)) i j
   choices-of-a-join zero ls rs i j (k, o, o′, (l, p, x), (r, q, y)) = (l, r, p, q, (k, o, o′, x, y))
   choices-of-a-join (suc d) ls rs i j (k, (l, p, x), (r, q, y)) = (l, r, p, q, (k, x, y))
 
+  -- Two lists joined over a hop.
   join-lefts-runs : (h : SeqHop) (ls rs : List SeqAlt) → EveryFits ls → EveryFits rs → EveryFits (join-lefts h ls rs)
       → SameRuns (JoinOver h (RunsOfAny ls) (RunsOfAny rs)) (RunsOfAny (join-lefts h ls rs))
   join-lefts-runs h ls rs Fl Fr F i j = (outward, inward)
@@ -127,6 +125,7 @@ module _ (σ : ℕ → ℕ → Bool) where
           (λ i j z. (l, p, z)) (λ i j z. (r, q, z)) i j
           (pair l r p q .0 (subst (λ (z : SeqAlt). AlternativeRuns σ (z .steps) i j) e x))
 
+  -- A delay: two lists joined over each hop of its range.
   delay-runs : (m : ℕ) (x : Max) (L R : Runs) (ls rs : List SeqAlt) → SameRuns L (RunsOfAny ls) → SameRuns R (RunsOfAny rs)
       → EveryFits ls → EveryFits rs → EveryFits (join-hops (hops m x) ls rs) → (i j : ℕ)
       → ((d : ℕ) × (m ≤ d) × UpTo d x × Join d L R i j) ↔ RunsOfAny (join-hops (hops m x) ls rs) i j
@@ -148,8 +147,7 @@ module _ (σ : ℕ → ℕ → Bool) where
           let (l, u) = hops-allow-the-range m x d .0 (h, q, a) in
           (d, l, u, join-included d (RunsOfAny ls) L (RunsOfAny rs) R (λ i j. El i j .1) (λ i j. Er i j .1) i j r)
 
-  -- Repetitions.
-
+  -- c + 1 copies.
   copies-runs : (base : List SeqAlt) (c : ℕ) (R : Runs) → SameRuns R (RunsOfAny base) → Proper base → EveryFits (copies base c)
       → SameRuns (Times (suc c) R) (RunsOfAny (copies base c))
   copies-runs base zero R E B F i j = (λ (k, e, x). E i j .0 (subst⁻¹ (λ z. R z j) e x), λ x. (i, refl, E i j .1 x))
@@ -166,6 +164,7 @@ module _ (σ : ℕ → ℕ → Bool) where
       from : ℕ → ℕ → Type 0
       from j k = RunsOfAny base k j
 
+  -- Empty in front.
   with-empty-runs : (m : ℕ) (alts : List SeqAlt) (i j : ℕ) → (((m ≡ 0) × (i ≡ j)) ⊎ RunsOfAny alts i j) ↔ RunsOfAny (with-empty m alts) i j
   with-empty-runs m alts i j = (outward, λ (y, p, x). inward y (in-with-empty m alts y .0 p) x)
     where
@@ -178,6 +177,7 @@ module _ (σ : ℕ → ℕ → Bool) where
       inward y (inl e) x = inl (e .1, subst (λ (z : SeqAlt). AlternativeRuns σ (z .steps) i j) (e .0) x)
       inward y (inr p) x = inr (y, p, x)
 
+  -- [*m:n]: each count of copies, and the empty run where m is 0.
   consec-finite-runs : (base : List SeqAlt) (m x : ℕ) (R : Runs) → m ≤ suc x → SameRuns R (RunsOfAny base) → Proper base
       → EveryFits (consec-finite base m (suc x)) → (i j : ℕ)
       → ((c : ℕ) × (m ≤ c) × (c ≤ suc x) × Times c R i j) ↔ RunsOfAny (consec-finite base m (suc x)) i j
@@ -206,8 +206,9 @@ module _ (σ : ℕ → ℕ → Bool) where
       inward (inr (y, p, z)) =
           let (c, l, u, q) = in-copies-from base (below m) k y .0 p in
           let u′ : c < suc x = omega (arith, below-is-less m x w) in
-          (suc c, omega (arith, at-most-1-more m), u′, at-count c l u′ .1 (y, q, z))
+          (suc c, omega (arith, below-is-at-most-1-less m), u′, at-count c l u′ .1 (y, q, z))
 
+  -- [*m:$] of a Boolean: one long run, and the empty one where m is 0.
   consec-unbounded-runs : (m b : ℕ) (i j : ℕ)
       → ((c : ℕ) × (m ≤ c) × Unit {0} × Times c (Occurs σ b) i j) ↔ RunsOfAny (consec-unbounded m b) i j
   consec-unbounded-runs m b i j = (outward, λ r. inward (with-empty-runs m alts i j .1 r))
@@ -224,7 +225,7 @@ module _ (σ : ℕ → ℕ → Bool) where
 
       inward : ((m ≡ 0) × (i ≡ j)) ⊎ RunsOfAny alts i j → (c : ℕ) × (m ≤ c) × Unit {0} × Times c (Occurs σ b) i j
       inward (inl e) = (zero, omega arith, tt, e .1)
-      inward (inr y) = let (c, l, r) = single-runs x i j .1 y in (c, omega (arith, at-most-1-more m), tt, r)
+      inward (inr y) = let (c, l, r) = single-runs x i j .1 y in (c, omega (arith, below-is-at-most-1-less m), tt, r)
 
   -- Goto and nonconsecutive: the runs R b of their Boolean b.
   runs-over-a-boolean : (o : Operand) → IsBoolean o → (R : ℕ → Runs) (f : ℕ → List SeqAlt) → ((b : ℕ) → SameRuns (R b) (RunsOfAny (f b)))

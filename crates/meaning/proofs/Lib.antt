@@ -15,5 +15,6 @@ pub mod Members
 pub mod ExpansionRuns
 pub mod AnyOn
 pub mod RootRuns
+pub mod Windows
 pub mod WithinRuns
 pub mod MatchRuns

@@ -27,9 +27,9 @@ use Rattle.meaning.proofs.RunLaws.{NoEmptyRun}
 use Rattle.meaning.proofs.Joining.{Reaches, JoinOver, join-over-no-empty, join-over-by-its-ticks}
 use Rattle.meaning.proofs.MachineRuns.{StartedBy, goto-fsm-ends-goto-runs, nonconsec-fsm-ends-nonconsec-runs, consec-run-fsm-ends-long-runs}
 use Rattle.meaning.proofs.HopRuns.{FixedIfGuarded, GuardOn, GuardAfter, guard-and-is-both, delays-are-late, HopFrom, a-hop-reaches}
-use Rattle.meaning.proofs.AlternativeRuns.{TermRuns, FollowedBy, AlternativeRuns, term-no-empty, term-forward}
+use Rattle.meaning.proofs.AlternativeRuns.{TermRuns, FollowedBy, AlternativeRuns, term-no-empty, bool-length, term-forward}
 
--- 7, of a term.
+-- 7, of a term: under a guard it is a Bool.
 abbrev pub BoolIfGuarded : Guard → SeqTerm → Type 0
 BoolIfGuarded unguarded x = Unit {0}
 BoolIfGuarded (guard c) x = IsBool x
@@ -68,11 +68,7 @@ module _ (σ Reg : ℕ → ℕ → Bool) where
   -- Under a guard a term has one tick, so that no tick is left after its first.
   guard-after-a-term : (g : Guard) (x : SeqTerm) → BoolIfGuarded g x → (s t : ℕ) → TermRuns σ x s (suc t) → GuardAfter σ Reg g s t
   guard-after-a-term unguarded x B s t r m p q = tt
-  guard-after-a-term (guard c) (BoolTerm a) B s t r m p q = absurd (omega arith)
-  guard-after-a-term (guard c) (Goto b k) B s t r m p q = absurd B
-  guard-after-a-term (guard c) (Nonconsec b k) B s t r m p q = absurd B
-  guard-after-a-term (guard c) (ConsecAtLeast b k) B s t r m p q = absurd B
-  guard-after-a-term (guard c) Empty B s t r m p q = absurd B
+  guard-after-a-term (guard c) x B s t r m p q = absurd (omega (arith, bool-length σ x B s (suc t) r))
 
   -- The hop and then a term that is no Empty.
   a-later-term-marks : (g : Guard) (x : SeqTerm) (h : SeqHop) → NotEmpty x → BoolIfGuarded g x → FixedIfGuarded g h → (n : ℕ) (e : Expr)
@@ -137,6 +133,7 @@ module _ (σ Reg : ℕ → ℕ → Bool) where
       inward i (zero, r, q) = absurd (omega (arith, P i zero r))
       inward i (suc u, r, q) = late .1 (u, M u .1 (i, r, λ m p q. tt), omega arith, λ m p q. tt)
 
+  -- A later step of either kind.
   a-later-step-marks : (g : Guard) (x : SeqTerm) (h : SeqHop) → BoolIfGuarded g x → FixedIfGuarded g h → (IsEmpty x → FixedFrom1 h)
       → (n : ℕ) (e : Expr) → Drives σ Reg n (later g x h n e .stores) → (R : Runs) → NoEmptyRun R → MarksEnds g e R
       → MarksEnds g (later g x h n e .cur) (JoinOver h R (TermRuns σ x))
@@ -149,6 +146,7 @@ module _ (σ Reg : ℕ → ℕ → Bool) where
   a-later-step-marks unguarded Empty (Fixed zero) B F E n e D R P M = absurd (E tt)
   a-later-step-marks unguarded Empty (AtLeast m) B F E n e D R P M = absurd (E tt)
 
+  -- All later steps; p is the term before them.
   later-steps-mark : (g : Guard) (p : SeqTerm) (ss : List SeqStep) → Rule7 g ss → EmptiesFit p ss → (n : ℕ) (e : Expr)
       → Drives σ Reg n (laters g ss n e .stores) → (R : Runs) → NoEmptyRun R → MarksEnds g e R
       → MarksEnds g (laters g ss n e .cur) (FollowedBy σ R ss)
@@ -170,6 +168,7 @@ module _ (σ Reg : ℕ → ℕ → Bool) where
       let term = a-term-ends-its-runs x N n one· D t in
       (λ v. let (s, act, X) = term .0 v in (s, X, λ m p q. tt), λ (s, X, K). term .1 (s, tt, X))
 
+  -- The first term, with the guard.
   the-seed-marks : (g : Guard) (x : SeqTerm) → NotEmpty x → BoolIfGuarded g x → (n : ℕ) → Drives σ Reg n (seed x n .stores)
       → MarksEnds g (guard-and g (seed x n .cur)) (TermRuns σ x)
   the-seed-marks g (BoolTerm a) N B n D t =

@@ -3,7 +3,7 @@
 -- Assumes of the tree what refusals 3, 6, 8 and 12 leave, and no throughout (RootRuns.antt has those on top).
 use mathlib.Core.Bool.{Bool}
 use mathlib.Core.Path.{_≡_, refl, subst, subst⁻¹}
-use mathlib.Core.Logic.{_↔_, _⊎_, inl, inr, Iff·trans}
+use mathlib.Core.Logic.{_↔_, _⊎_, inl, inr, Iff·rfl, Iff·trans}
 use mathlib.Core.List.{List, [], _∷_, _++_}
 use Prim.Native.Nat.{ℕ, zero, suc, _-_, _≤_, _<_}
 use native.Mathlib.Omega.{arith}
@@ -22,57 +22,53 @@ use Rattle.meaning.proofs.Joining.{JoinOver, join-over-included}
 use Rattle.meaning.proofs.AlternativeRuns.{AllEmptiesFit, empties-fit-append, TermRuns, AlternativeRuns, a-joined-alternative-means-the-join}
 use Rattle.meaning.proofs.Members.{in-join-lefts, joined-in, in-join-hops, hops-allow-the-range, in-copies-from, in-with-empty, below-is-less, below-is-at-most-1-less, count-from-1, Some, there-is-a-copy, there-is-an-alternative, of-every-copy, of-every-alternative}
 
--- No alternative is without a step.
-
+-- There is a step.
 abbrev HasStep : List SeqStep → Type 0
 HasStep [] = ⊥
 HasStep (s ∷ ss) = Unit {0}
 
--- Steps in front are enough.
-has-step-append : (l r : List SeqStep) → HasStep l → HasStep (l ++ r)
-has-step-append [] r p = absurd p
-has-step-append (s ∷ l) r p = tt
+-- A joined alternative has the steps of the left one.
+joined-has-step : (h : SeqHop) (l r : SeqAlt) → HasStep (l .steps) → HasStep (r .steps) → HasStep (joined h l r .steps)
+joined-has-step h l r p q = go (l .steps) p
+  where
+    go : (ss : List SeqStep) → HasStep ss → HasStep (ss ++ rehop h (r .steps))
+    go [] p = absurd p
+    go (s ∷ ss) p = tt
 
 -- There is an alternative, and each has a step.
 abbrev Proper : List SeqAlt → Type 0
 Proper alts = Some alts × ((y : SeqAlt) → In y alts → HasStep (y .steps))
 
--- The alternatives of a tree, and their copies, are so.
+-- The alternatives of a tree are so, and copies of such alternatives.
 proper : (s : Seq) → Regular s → Proper (expand s)
-proper s k = (
-  there-is-an-alternative s k,
-  of-every-alternative (λ (y : SeqAlt). HasStep (y .steps)) (λ x. tt) (λ h l r p q. has-step-append (l .steps) (rehop h (r .steps)) p) s k,
-)
+proper s k = (there-is-an-alternative s k, of-every-alternative (λ (y : SeqAlt). HasStep (y .steps)) (λ x. tt) joined-has-step s k)
 
 proper-copies : (base : List SeqAlt) (c : ℕ) → Proper base → Proper (copies base c)
-proper-copies base c (o, B) = (
-  there-is-a-copy base c o,
-  of-every-copy (λ (y : SeqAlt). HasStep (y .steps)) (λ x. tt) (λ h l r p q. has-step-append (l .steps) (rehop h (r .steps)) p) base c B,
-)
-
--- 12 holds of the parts where it holds of the whole.
+proper-copies base c (o, B) =
+    (there-is-a-copy base c o, of-every-copy (λ (y : SeqAlt). HasStep (y .steps)) (λ x. tt) joined-has-step base c B)
 
 -- 12 of every alternative, but that one may begin with Empty.
 abbrev pub EveryFits : List SeqAlt → Type 0
 EveryFits alts = (y : SeqAlt) → In y alts → AllEmptiesFit (y .steps)
 
--- .. of two joined alternatives
-parts-fit : (h : SeqHop) (l r : List SeqStep) → HasStep l → HasStep r → AllEmptiesFit (l ++ rehop h r) → AllEmptiesFit l × AllEmptiesFit r
+-- It holds of both parts of a joined alternative,
+parts-fit : (h : SeqHop) (l r : List SeqStep) → HasStep l → HasStep r → AllEmptiesFit (l ++ rehop h r)
+    → AllEmptiesFit l × AllEmptiesFit r
 parts-fit h [] r p q F = absurd p
 parts-fit h (s ∷ l) [] p q F = absurd q
 parts-fit h (s ∷ l) (x ∷ r) p q F = let (a, b, c) = empties-fit-append (s .term) l (x .term) h r F in (a, c)
 
--- .. of two joined lists
-lefts-fit : (h : SeqHop) (ls rs : List SeqAlt) → Proper ls → Proper rs → EveryFits (join-lefts h ls rs) → EveryFits ls
-lefts-fit h ls rs (o, L) ((r, q), R) F l p = parts-fit h (l .steps) (r .steps) (L l p) (R r q) (F (joined h l r) (joined-in h ls rs l r p q)) .0
+-- .. of both lists of a joined list,
+lists-fit : (h : SeqHop) (ls rs : List SeqAlt) → Proper ls → Proper rs → EveryFits (join-lefts h ls rs) → EveryFits ls × EveryFits rs
+lists-fit h ls rs ((l₀, p₀), L) ((r₀, q₀), R) F = (λ l p. pair l r₀ p q₀ .0, λ r q. pair l₀ r p₀ q .1)
+  where
+    pair : (l r : SeqAlt) → In l ls → In r rs → AllEmptiesFit (l .steps) × AllEmptiesFit (r .steps)
+    pair l r p q = parts-fit h (l .steps) (r .steps) (L l p) (R r q) (F (joined h l r) (joined-in h ls rs l r p q))
 
-rights-fit : (h : SeqHop) (ls rs : List SeqAlt) → Proper ls → Proper rs → EveryFits (join-lefts h ls rs) → EveryFits rs
-rights-fit h ls rs ((l, p), L) (o, R) F r q = parts-fit h (l .steps) (r .steps) (L l p) (R r q) (F (joined h l r) (joined-in h ls rs l r p q)) .1
-
--- .. and of copies.
+-- .. and of what is copied.
 base-fits : (base : List SeqAlt) (c : ℕ) → Proper base → EveryFits (copies base c) → EveryFits base
 base-fits base zero B F = F
-base-fits base (suc c) B F = base-fits base c B (lefts-fit (Fixed 1) (copies base c) base (proper-copies base c B) B F)
+base-fits base (suc c) B F = lists-fit (Fixed 1) (copies base c) base (proper-copies base c B) B F .1
 
 -- The operand of goto, nonconsecutive and [*m:$] is an atom.
 an-operand-is-an-atom : (s : Seq) → IsBoolean (operand s) → (n b : ℕ) × (s ≡ atom n b)
@@ -109,7 +105,8 @@ module _ (σ : ℕ → ℕ → Bool) where
   join-lefts-runs h ls rs Fl Fr F i j = (outward, inward)
     where
       pair : (l r : SeqAlt) → In l ls → In r rs
-          → AlternativeRuns σ (joined h l r .steps) i j ↔ JoinOver h (AlternativeRuns σ (l .steps)) (AlternativeRuns σ (r .steps)) i j
+          → AlternativeRuns σ (joined h l r .steps) i j
+          ↔ JoinOver h (AlternativeRuns σ (l .steps)) (AlternativeRuns σ (r .steps)) i j
       pair l r p q =
           a-joined-alternative-means-the-join σ h (l .steps) (r .steps) (Fl l p) (F (joined h l r) (joined-in h ls rs l r p q)) (Fr r q) i j
 
@@ -137,7 +134,8 @@ module _ (σ : ℕ → ℕ → Bool) where
       outward : (d : ℕ) × (m ≤ d) × UpTo d x × Join d L R i j → RunsOfAny (join-hops (hops m x) ls rs) i j
       outward (d, l, u, r) =
           let (h, q, a) = hops-allow-the-range m x d .1 (l, u) in
-          let (y, p, z) = at-hop h q .0 (d, a, join-included d L (RunsOfAny ls) R (RunsOfAny rs) (λ i j. El i j .0) (λ i j. Er i j .0) i j r) in
+          let r′ = join-included d L (RunsOfAny ls) R (RunsOfAny rs) (λ i j. El i j .0) (λ i j. Er i j .0) i j r in
+          let (y, p, z) = at-hop h q .0 (d, a, r′) in
           (y, in-join-hops (hops m x) ls rs y .1 (h, q, p), z)
 
       inward : RunsOfAny (join-hops (hops m x) ls rs) i j → (d : ℕ) × (m ≤ d) × UpTo d x × Join d L R i j
@@ -152,9 +150,9 @@ module _ (σ : ℕ → ℕ → Bool) where
       → SameRuns (Times (suc c) R) (RunsOfAny (copies base c))
   copies-runs base zero R E B F i j = (λ (k, e, x). E i j .0 (subst⁻¹ (λ z. R z j) e x), λ x. (i, refl, E i j .1 x))
   copies-runs base (suc c) R E B F i j =
-      let F′ = lefts-fit (Fixed 1) (copies base c) base (proper-copies base c B) B F in
-      let fewer = copies-runs base c R E B F′ in
-      let joins = join-lefts-runs (Fixed 1) (copies base c) base F′ (base-fits base (suc c) B F) F i j in (
+      let (F₁, F₂) = lists-fit (Fixed 1) (copies base c) base (proper-copies base c B) B F in
+      let fewer = copies-runs base c R E B F₁ in
+      let joins = join-lefts-runs (Fixed 1) (copies base c) base F₁ F₂ F i j in (
         λ (k, xs, x). joins .0 (1, refl, (k, fewer i k .0 xs, subst (from j) (omega arith) (E k j .0 x))),
         λ x. let (d, e, y) = joins .1 x in
             let (k, xs, z) = subst (λ d. Join d (RunsOfAny (copies base c)) (RunsOfAny base) i j) e y in
@@ -165,7 +163,8 @@ module _ (σ : ℕ → ℕ → Bool) where
       from j k = RunsOfAny base k j
 
   -- Empty in front.
-  with-empty-runs : (m : ℕ) (alts : List SeqAlt) (i j : ℕ) → (((m ≡ 0) × (i ≡ j)) ⊎ RunsOfAny alts i j) ↔ RunsOfAny (with-empty m alts) i j
+  with-empty-runs : (m : ℕ) (alts : List SeqAlt) (i j : ℕ)
+      → (((m ≡ 0) × (i ≡ j)) ⊎ RunsOfAny alts i j) ↔ RunsOfAny (with-empty m alts) i j
   with-empty-runs m alts i j = (outward, λ (y, p, x). inward y (in-with-empty m alts y .0 p) x)
     where
       outward : ((m ≡ 0) × (i ≡ j)) ⊎ RunsOfAny alts i j → RunsOfAny (with-empty m alts) i j
@@ -227,11 +226,13 @@ module _ (σ : ℕ → ℕ → Bool) where
       inward (inl e) = (zero, omega arith, tt, e .1)
       inward (inr y) = let (c, l, r) = single-runs x i j .1 y in (c, omega (arith, below-is-at-most-1-less m), tt, r)
 
-  -- Goto and nonconsecutive: the runs R b of their Boolean b.
-  runs-over-a-boolean : (o : Operand) → IsBoolean o → (R : ℕ → Runs) (f : ℕ → List SeqAlt) → ((b : ℕ) → SameRuns (R b) (RunsOfAny (f b)))
-      → SameRuns (Over σ o R) (RunsOfAny (over o f))
-  runs-over-a-boolean (boolean b) B R f E i j = E b i j
-  runs-over-a-boolean other B R f E i j = absurd B
+  -- Goto and nonconsecutive: the runs R b c of their Boolean b, counted c times.
+  runs-over-a-boolean : (o : Operand) → IsBoolean o → (c : ℕ) → 1 ≤ c → (R : ℕ → ℕ → Runs) (x : ℕ → SeqTerm)
+      → ((b : ℕ) → SameRuns (R b (suc (below c))) (TermRuns σ (x b)))
+      → SameRuns (Over σ o (λ b. R b c)) (RunsOfAny (over o (λ b. single (x b) ∷ [])))
+  runs-over-a-boolean (boolean b) B c l R x E i j =
+      subst (λ z. R b z i j ↔ RunsOfAny (single (x b) ∷ []) i j) (count-from-1 c l) (Iff·trans (E b i j) (single-runs (x b) i j))
+  runs-over-a-boolean other B c l R x E i j = absurd B
 
   -- The runs that a tree matches are those of its alternatives.
   pub expansion-keeps-the-matches : (s : Seq) → Regular s → EveryFits (expand s) → SameRuns (Match σ s) (RunsOfAny (expand s))
@@ -240,9 +241,9 @@ module _ (σ : ℕ → ℕ → Bool) where
       let (h, q, a) = hops-allow-the-range m x m .1 (omega arith, k .2) in
       let B₁ = proper l (k .0) in
       let B₂ = proper r (k .1) in
-      let F′ : EveryFits (join-lefts h (expand l) (expand r)) = λ y p. F y (in-join-hops (hops m x) (expand l) (expand r) y .1 (h, q, p)) in
-      let F₁ = lefts-fit h (expand l) (expand r) B₁ B₂ F′ in
-      let F₂ = rights-fit h (expand l) (expand r) B₁ B₂ F′ in
+      let F′ : EveryFits (join-lefts h (expand l) (expand r)) =
+      λ y p. F y (in-join-hops (hops m x) (expand l) (expand r) y .1 (h, q, p)) in
+      let (F₁, F₂) = lists-fit h (expand l) (expand r) B₁ B₂ F′ in
       delay-runs m x (Match σ l) (Match σ r) (expand l) (expand r)
       (expansion-keeps-the-matches l (k .0) F₁) (expansion-keeps-the-matches r (k .1) F₂) F₁ F₂ F i j
   expansion-keeps-the-matches (consec n s m (finite zero)) k F i j =
@@ -255,15 +256,15 @@ module _ (σ : ℕ → ℕ → Bool) where
       let some-copies = copies-from (expand s) (below m) (suc x - below m) in
       let F′ : EveryFits (copies (expand s) (below m)) = λ y p. F y (in-with-empty m some-copies y .1
       (inr (in-copies-from (expand s) (below m) (suc x - below m) y .1 (below m, omega arith, omega arith, p)))) in
-      consec-finite-runs (expand s) m x (Match σ s) (k .1) (expansion-keeps-the-matches s (k .0) (base-fits (expand s) (below m) B F′)) B F i j
+      let same = expansion-keeps-the-matches s (k .0) (base-fits (expand s) (below m) B F′) in
+      consec-finite-runs (expand s) m x (Match σ s) (k .1) same B F i j
   expansion-keeps-the-matches (consec n s m unbounded) k F i j =
       let (n′, b, e) = an-operand-is-an-atom s k in
-      subst⁻¹ (λ z. Match σ (consec n z m unbounded) i j ↔ RunsOfAny (expand (consec n z m unbounded)) i j) e (consec-unbounded-runs m b i j)
+      subst⁻¹ (λ z. Match σ (consec n z m unbounded) i j ↔ RunsOfAny (expand (consec n z m unbounded)) i j) e
+      (consec-unbounded-runs m b i j)
   expansion-keeps-the-matches (goto n s c) k F i j =
-      runs-over-a-boolean (operand s) (k .0) (λ b. GotoRuns σ b c) (λ b. single (Goto b c) ∷ [])
-      (λ b i j. subst (λ z. GotoRuns σ b z i j ↔ RunsOfAny (single (Goto b c) ∷ []) i j) (count-from-1 c (k .1)) (single-runs (Goto b c) i j)) i j
+      runs-over-a-boolean (operand s) (k .0) c (k .1) (GotoRuns σ) (λ b. Goto b c) (λ b i j. Iff·rfl) i j
   expansion-keeps-the-matches (nonconsec n s c) k F i j =
-      runs-over-a-boolean (operand s) (k .0) (λ b. NonconsecRuns σ b c) (λ b. single (Nonconsec b c) ∷ [])
-      (λ b i j. subst (λ z. NonconsecRuns σ b z i j ↔ RunsOfAny (single (Nonconsec b c) ∷ []) i j) (count-from-1 c (k .1)) (single-runs (Nonconsec b c) i j)) i j
+      runs-over-a-boolean (operand s) (k .0) c (k .1) (NonconsecRuns σ) (λ b. Nonconsec b c) (λ b i j. Iff·rfl) i j
   expansion-keeps-the-matches (throughout n c s) k F i j = absurd k
   expansion-keeps-the-matches (within n s₁ s₂) k F i j = absurd k

@@ -73,7 +73,8 @@ module _ (σ Reg : ℕ → ℕ → Bool) where
       )
 
   -- The latch is 1 from the tick after its expression was on.
-  pub the-latch-holds : (r : ℕ) (e : Expr) → Driven σ Reg r (or· (r· r) e) → (t : ℕ) → T (Reg t r) ↔ ((u : ℕ) × On σ Reg e u × (u < t))
+  pub the-latch-holds : (r : ℕ) (e : Expr) → Driven σ Reg r (or· (r· r) e) → (t : ℕ)
+      → T (Reg t r) ↔ ((u : ℕ) × On σ Reg e u × (u < t))
   the-latch-holds r e d t = (
     λ h. let (u, x, l, K) = register .0 h in (u, x, l),
     λ (u, x, l). register .1 (u, x, l, λ m p q. tt),
@@ -93,7 +94,8 @@ module _ (σ Reg : ℕ → ℕ → Bool) where
   HopFrom g h e s = (u : ℕ) × On σ Reg e u × Reaches h u s × GuardAfter g u s
 
   -- The signal of a hop is on at the ticks that the hop reaches.
-  pub a-hop-reaches : (g : Guard) (h : SeqHop) → FixedIfGuarded g h → (n : ℕ) (e : Expr) → Drives σ Reg n (hop-over g h n e .stores) → (s : ℕ)
+  pub a-hop-reaches : (g : Guard) (h : SeqHop) → FixedIfGuarded g h → (n : ℕ) (e : Expr)
+      → Drives σ Reg n (hop-over g h n e .stores) → (s : ℕ)
       → On σ Reg (hop-over g h n e .cur) s ↔ HopFrom g h e s
   a-hop-reaches g (Fixed d) F n e D s =
       let late = delays-are-late g d n e D s in (

@@ -14,8 +14,9 @@ use Rattle.meaning.proofs.On.{On, on-where-its-value-is-1}
 use Rattle.meaning.proofs.RootRuns.{the-choice-ends-the-matches}
 use Rattle.meaning.proofs.WithinRuns.{a-within-ends-the-matches}
 
--- The same of the signal, kind by kind of the root.
-the-signal-ends-the-matches : (σ Reg : ℕ → ℕ → Bool) (s : Seq) → Acceptable s → (n : ℕ) → Drives σ Reg n (synth-seq-match s n .stores) → (t : ℕ)
+-- The same of the signal, by the kind of the root: a within, or a choice over the alternatives.
+the-signal-ends-the-matches : (σ Reg : ℕ → ℕ → Bool) (s : Seq) → Acceptable s → (n : ℕ)
+    → Drives σ Reg n (synth-seq-match s n .stores) → (t : ℕ)
     → On σ Reg (synth-seq-match s n .cur) t ↔ ((i : ℕ) × (i ≤ t) × Match σ s i (suc t))
 the-signal-ends-the-matches σ Reg (within k x y) A n D t = a-within-ends-the-matches σ Reg k x y (A .0) (A .1) (A .2) (A .3) n D t
 the-signal-ends-the-matches σ Reg (atom k a) A n D t = the-choice-ends-the-matches σ Reg (atom k a) (A .0) (A .1) n D t

@@ -129,7 +129,8 @@ pub in-copies-from : (base : List SeqAlt) (k n : ℕ) (y : SeqAlt)
 in-copies-from base k n y = in-numbered (copies base) (copies-from base) (λ k. refl) (λ k n. refl) k n y
 
 -- Empty stands in front where m is 0.
-pub in-with-empty : (m : ℕ) (alts : List SeqAlt) (y : SeqAlt) → In y (with-empty m alts) ↔ (((y ≡ single Empty) × (m ≡ 0)) ⊎ In y alts)
+pub in-with-empty : (m : ℕ) (alts : List SeqAlt) (y : SeqAlt)
+    → In y (with-empty m alts) ↔ (((y ≡ single Empty) × (m ≡ 0)) ⊎ In y alts)
 in-with-empty zero alts y = (
   λ p. elim p [ inl e ↦ inl (e, refl) | inr q ↦ inr q ],
   λ p. elim p [ inl e ↦ inl (e .0) | inr q ↦ inr q ],
@@ -141,10 +142,11 @@ abbrev pub guarded-by : ℕ → SeqAlt → SeqAlt
 guarded-by c y = alternative (y .steps) (and-opt (y .guard) (guard (any (a· c))))
 
 -- Each alternative, under the condition c too.
-pub in-guard-each : (c : ℕ) (alts : List SeqAlt) (z : SeqAlt) → In z (guard-each c alts) ↔ ((y : SeqAlt) × In y alts × (z ≡ guarded-by c y))
+pub in-guard-each : (c : ℕ) (alts : List SeqAlt) (z : SeqAlt)
+    → In z (guard-each c alts) ↔ ((y : SeqAlt) × In y alts × (z ≡ guarded-by c y))
 in-guard-each c alts z = in-each (guarded-by c) (guard-each c) refl (λ y ys. refl) alts z
 
--- What goto, nonconsecutive and [*m:$] make over their Boolean.
+-- What holds of the alternatives over any Boolean holds over the operand of goto, nonconsecutive and [*m:$].
 over-a-boolean : (o : Operand) → IsBoolean o → (f : ℕ → List SeqAlt) (P : List SeqAlt → Type 0) → ((b : ℕ) → P (f b)) → P (over o f)
 over-a-boolean (boolean b) B f P p = p b
 over-a-boolean other B f P p = absurd B
@@ -187,8 +189,10 @@ there-is-an-alternative (consec n s m (finite (suc x))) k =
     let q = in-copies-from (expand s) (below m) (suc x - below m) y .1 (below m, omega arith, omega (arith, below-is-less m x (k .1)), p) in
     (y, in-with-empty m some-copies y .1 (inr q))
 there-is-an-alternative (consec n s m unbounded) k =
-    over-a-boolean (operand s) k (consec-unbounded m) Some (λ b. (single (ConsecAtLeast b (suc (below m))), in-with-empty m _ _ .1 (inr (inl refl))))
-there-is-an-alternative (goto n s k) q = over-a-boolean (operand s) (q .0) (λ b. single (Goto b k) ∷ []) Some (λ b. (single (Goto b k), inl refl))
+    over-a-boolean (operand s) k (consec-unbounded m) Some
+    (λ b. (single (ConsecAtLeast b (suc (below m))), in-with-empty m _ _ .1 (inr (inl refl))))
+there-is-an-alternative (goto n s k) q =
+    over-a-boolean (operand s) (q .0) (λ b. single (Goto b k) ∷ []) Some (λ b. (single (Goto b k), inl refl))
 there-is-an-alternative (nonconsec n s k) q =
     over-a-boolean (operand s) (q .0) (λ b. single (Nonconsec b k) ∷ []) Some (λ b. (single (Nonconsec b k), inl refl))
 there-is-an-alternative (throughout n c s) k = absurd k
@@ -229,7 +233,8 @@ module _ (P : SeqAlt → Type 0) (of-single : (x : SeqTerm) → P (single x))
   of-every-alternative (consec n s m unbounded) k =
       over-a-boolean (operand s) k (consec-unbounded m) All
       (λ b. all-with-empty m (single (ConsecAtLeast b (suc (below m))) ∷ []) (all-single (ConsecAtLeast b (suc (below m)))))
-  of-every-alternative (goto n s k) q = over-a-boolean (operand s) (q .0) (λ b. single (Goto b k) ∷ []) All (λ b. all-single (Goto b k))
+  of-every-alternative (goto n s k) q =
+      over-a-boolean (operand s) (q .0) (λ b. single (Goto b k) ∷ []) All (λ b. all-single (Goto b k))
   of-every-alternative (nonconsec n s k) q =
       over-a-boolean (operand s) (q .0) (λ b. single (Nonconsec b k) ∷ []) All (λ b. all-single (Nonconsec b k))
   of-every-alternative (throughout n c s) k = absurd k

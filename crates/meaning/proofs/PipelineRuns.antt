@@ -1,6 +1,7 @@
 -- The pipeline of an alternative: its current value is on exactly where a run of the alternative ends under the guard.
 -- Example: that of [a, b after 2] is on at t where a held at t - 2 and b holds at t.
--- Assumes refusals 7 and 12 of the alternative, and that the pipeline's stores drive its registers.
+-- Assumes refusals 7 and 12 of the alternative, and that the pipeline's stores drive its registers. In the proofs B, F and E are
+-- 7 of a term, 7 of a hop and 12, D that the stores drive, P that R has no empty run, and M that e marks the ends of R.
 use mathlib.Core.Bool.{Bool}
 use mathlib.Core.Path.{_≡_, refl, subst}
 use mathlib.Core.Logic.{_↔_}
@@ -54,7 +55,8 @@ module _ (σ Reg : ℕ → ℕ → Bool) where
   MarksEnds g e R = (t : ℕ) → On σ Reg e t ↔ EndsUnder g R t
 
   -- A term on its activation is on where a run of the term ends that began with the activation.
-  pub a-term-ends-its-runs : (x : SeqTerm) → NotEmpty x → (n : ℕ) (act : Expr) → Drives σ Reg n (apply-term x n act .stores) → (t : ℕ)
+  pub a-term-ends-its-runs : (x : SeqTerm) → NotEmpty x → (n : ℕ) (act : Expr)
+      → Drives σ Reg n (apply-term x n act .stores) → (t : ℕ)
       → On σ Reg (apply-term x n act .cur) t ↔ StartedBy σ Reg act (TermRuns σ x) t
   a-term-ends-its-runs (BoolTerm a) p n act D t = (
     λ (x, y). (t, x, (refl, y)),
@@ -71,8 +73,8 @@ module _ (σ Reg : ℕ → ℕ → Bool) where
   guard-after-a-term (guard c) x B s t r m p q = absurd (omega (arith, bool-length σ x B s (suc t) r))
 
   -- The hop and then a term that is no Empty.
-  a-later-term-marks : (g : Guard) (x : SeqTerm) (h : SeqHop) → NotEmpty x → BoolIfGuarded g x → FixedIfGuarded g h → (n : ℕ) (e : Expr)
-      → Drives σ Reg n (andThen n (hop-over g h n e) (apply-term x) .stores) → (R : Runs) → NoEmptyRun R → MarksEnds g e R
+  a-later-term-marks : (g : Guard) (x : SeqTerm) (h : SeqHop) → NotEmpty x → BoolIfGuarded g x → FixedIfGuarded g h
+      → (n : ℕ) (e : Expr) → Drives σ Reg n (andThen n (hop-over g h n e) (apply-term x) .stores) → (R : Runs) → NoEmptyRun R → MarksEnds g e R
       → MarksEnds g (andThen n (hop-over g h n e) (apply-term x) .cur) (JoinOver h R (TermRuns σ x))
   a-later-term-marks g x h N B F n e D R P M t = (outward, inward)
     where
@@ -116,7 +118,8 @@ module _ (σ Reg : ℕ → ℕ → Bool) where
           term .1 (s, hop s .1 (u, y, (d, a, e), λ m w w′. K m (omega arith) (omega arith)), X)
 
   -- Empty after a fixed hop of d + 1: d delays, and a run that ends d ticks later.
-  an-empty-marks : (d n : ℕ) (e : Expr) → Drives σ Reg n (delays unguarded d n e .stores) → (R : Runs) → NoEmptyRun R → MarksEnds unguarded e R
+  an-empty-marks : (d n : ℕ) (e : Expr) → Drives σ Reg n (delays unguarded d n e .stores)
+      → (R : Runs) → NoEmptyRun R → MarksEnds unguarded e R
       → MarksEnds unguarded (delays unguarded d n e .cur) (JoinOver (Fixed (suc d)) R (TermRuns σ Empty))
   an-empty-marks d n e D R P M t = (outward, λ (i, (c, q, j), K). inward i (subst (λ z. Join z R (TermRuns σ Empty) i (suc t)) q j))
     where

@@ -1,6 +1,7 @@
 -- The choice at a root that is no within: it is on exactly where a match of the tree ends.
 -- Example: `c throughout (a ##1 b)` is on at t where a held at t - 1, b holds at t, and c held at both.
--- Assumes of the tree what refusals 3, 6, 7, 8 and 12 leave, with throughout only on top, and that the stores drive their registers.
+-- Assumes of the tree what refusals 3, 6, 7, 8 and 12 leave, with throughout only on top, and that the stores drive their
+-- registers. In the proofs k is what the tree is, K what its alternatives passed, D that the stores drive.
 use mathlib.Core.Bool.{Bool}
 use mathlib.Core.Path.{_≡_, refl, subst, subst⁻¹}
 use mathlib.Core.Logic.{_↔_, _⊎_, inl, inr, Iff·rfl, Iff·trans}
@@ -12,6 +13,7 @@ use Rattle.meaning.specs.Tree.{Seq, atom, delay, consec, goto, nonconsec
 use Rattle.meaning.specs.Match.{Match}
 use Rattle.meaning.specs.Expression.{Expr, a·, any}
 use Rattle.meaning.specs.Alternative.{Guard, unguarded, guard, and-opt, SeqAlt, step, guard-each, expand}
+use Rattle.meaning.specs.Pipeline.{synth-seq-pipeline}
 use Rattle.meaning.specs.Root.{lone-or-pipeline, match-sigs, choice}
 use Rattle.meaning.specs.declared.SeqTerm.{SeqTerm}
 use Rattle.meaning.specs.declared.SeqTerm.the-variants.{Bool as BoolTerm, Goto, Nonconsec, ConsecAtLeast, Empty}
@@ -47,22 +49,27 @@ rules-with-less c alts K y m =
     (rule-7-with-less (y .guard) (any (a· c)) (y .steps) p, q)
 
 module _ (σ Reg : ℕ → ℕ → Bool) where
+  -- One condition more holds where the guard and the condition do.
   and-opt-is-both : (g : Guard) (c : Expr) (t : ℕ) → GuardOn σ Reg (and-opt g (guard c)) t ↔ (GuardOn σ Reg g t × On σ Reg c t)
   and-opt-is-both unguarded c t = (λ h. (tt, h), λ h. h .1)
   and-opt-is-both (guard x) c t = Iff·rfl
 
-  -- The signal of one alternative.
+  -- The signal of one alternative: a lone Bool is bare, which changes nothing.
   an-alternative-marks-its-runs : (g : Guard) (ss : List SeqStep) → Rule7 g ss → Rule12 ss → (n : ℕ)
       → Drives σ Reg n (lone-or-pipeline g ss n .stores) → MarksEnds σ Reg g (lone-or-pipeline g ss n .cur) (AlternativeRuns σ ss)
   an-alternative-marks-its-runs unguarded [] F E n D = absurd E
   an-alternative-marks-its-runs unguarded (s ∷ []) F E n D = lone (s .term) (E .0) D
     where
+      pipeline : (x : SeqTerm) → NotEmpty x → Drives σ Reg n (synth-seq-pipeline unguarded (step x (Fixed zero) ∷ []) n .stores)
+          → MarksEnds σ Reg unguarded (synth-seq-pipeline unguarded (step x (Fixed zero) ∷ []) n .cur) (TermRuns σ x)
+      pipeline x N D = a-pipeline-marks-its-runs σ Reg unguarded (step x (Fixed zero) ∷ []) tt (N, tt) n D
+
       lone : (x : SeqTerm) → NotEmpty x → Drives σ Reg n (lone-or-pipeline unguarded (step x (s .hop) ∷ []) n .stores)
           → MarksEnds σ Reg unguarded (lone-or-pipeline unguarded (step x (s .hop) ∷ []) n .cur) (TermRuns σ x)
-      lone (BoolTerm a) N D = a-pipeline-marks-its-runs σ Reg unguarded (step (BoolTerm a) (Fixed zero) ∷ []) tt (N, tt) n tt
-      lone (Goto b k) N D = a-pipeline-marks-its-runs σ Reg unguarded (step (Goto b k) (Fixed zero) ∷ []) tt (N, tt) n D
-      lone (Nonconsec b k) N D = a-pipeline-marks-its-runs σ Reg unguarded (step (Nonconsec b k) (Fixed zero) ∷ []) tt (N, tt) n D
-      lone (ConsecAtLeast b k) N D = a-pipeline-marks-its-runs σ Reg unguarded (step (ConsecAtLeast b k) (Fixed zero) ∷ []) tt (N, tt) n D
+      lone (BoolTerm a) N D = pipeline (BoolTerm a) N tt
+      lone (Goto b k) N D = pipeline (Goto b k) N D
+      lone (Nonconsec b k) N D = pipeline (Nonconsec b k) N D
+      lone (ConsecAtLeast b k) N D = pipeline (ConsecAtLeast b k) N D
       lone Empty N D = absurd N
   an-alternative-marks-its-runs unguarded (s ∷ r ∷ ss) F E n D = a-pipeline-marks-its-runs σ Reg unguarded (s ∷ r ∷ ss) F E n D
   an-alternative-marks-its-runs (guard x) ss F E n D = a-pipeline-marks-its-runs σ Reg (guard x) ss F E n D
@@ -72,7 +79,8 @@ module _ (σ Reg : ℕ → ℕ → Bool) where
   GuardedRun alts i t = (y : SeqAlt) × In y alts × AlternativeRuns σ (y .steps) i (suc t) × GuardOver σ Reg (y .guard) i t
 
   -- One of the signals is on where such a run ends.
-  the-signals-mark-the-runs : (alts : List SeqAlt) → Rules7And12 alts → (n : ℕ) → Drives σ Reg n (match-sigs alts n .stores) → (t : ℕ)
+  the-signals-mark-the-runs : (alts : List SeqAlt) → Rules7And12 alts → (n : ℕ)
+      → Drives σ Reg n (match-sigs alts n .stores) → (t : ℕ)
       → AnyOn σ Reg (match-sigs alts n .curs) t ↔ ((i : ℕ) × GuardedRun alts i t)
   the-signals-mark-the-runs [] K n D t = (λ h. absurd h, λ (i, (y, m, x, G)). absurd m)
   the-signals-mark-the-runs (y ∷ ys) K n D t =
@@ -96,7 +104,8 @@ module _ (σ Reg : ℕ → ℕ → Bool) where
       inward first others (i, (z, inr q, x, G)) = inr (others .1 (i, (z, q, x, G)))
 
   -- Without throughout no guard is to hold.
-  regular-keeps-the-matches : (s : Seq) → Regular s → Rules7And12 (expand s) → (i t : ℕ) → Match σ s i (suc t) ↔ GuardedRun (expand s) i t
+  regular-keeps-the-matches : (s : Seq) → Regular s → Rules7And12 (expand s) → (i t : ℕ)
+      → Match σ s i (suc t) ↔ GuardedRun (expand s) i t
   regular-keeps-the-matches s k K i t =
       let same = expansion-keeps-the-matches σ s k (λ y m. rule-12-fits (y .steps) (K y m .1)) i (suc t) in (
         λ h. let (y, m, x) = same .0 h in
@@ -105,7 +114,8 @@ module _ (σ Reg : ℕ → ℕ → Bool) where
       )
 
   -- Each throughout on top adds its condition to the guards.
-  a-chain-keeps-the-matches : (s : Seq) → RegularChain s → Rules7And12 (expand s) → (i t : ℕ) → Match σ s i (suc t) ↔ GuardedRun (expand s) i t
+  a-chain-keeps-the-matches : (s : Seq) → RegularChain s → Rules7And12 (expand s) → (i t : ℕ)
+      → Match σ s i (suc t) ↔ GuardedRun (expand s) i t
   a-chain-keeps-the-matches (atom n a) k K i t = regular-keeps-the-matches (atom n a) k K i t
   a-chain-keeps-the-matches (delay n l r m x) k K i t = regular-keeps-the-matches (delay n l r m x) k K i t
   a-chain-keeps-the-matches (consec n s m x) k K i t = regular-keeps-the-matches (consec n s m x) k K i t
@@ -128,11 +138,13 @@ module _ (σ Reg : ℕ → ℕ → Bool) where
       Kept : SeqAlt → Type 0
       Kept y = AlternativeRuns σ (y .steps) i (suc t) × GuardOver σ Reg (y .guard) i t
 
-      condition : (y : SeqAlt) (u : ℕ) → GuardOn σ Reg (guarded-by c y .guard) u ↔ (GuardOn σ Reg (y .guard) u × On σ Reg (any (a· c)) u)
+      condition : (y : SeqAlt) (u : ℕ)
+          → GuardOn σ Reg (guarded-by c y .guard) u ↔ (GuardOn σ Reg (y .guard) u × On σ Reg (any (a· c)) u)
       condition y u = and-opt-is-both (y .guard) (any (a· c)) u
 
   -- The choice at the root is on exactly where a match ends; a match that ends has a tick.
-  pub the-choice-ends-the-matches : (s : Seq) → RegularChain s → Rules7And12 (expand s) → (n : ℕ) → Drives σ Reg n (choice (expand s) n .stores) → (t : ℕ)
+  pub the-choice-ends-the-matches : (s : Seq) → RegularChain s → Rules7And12 (expand s) → (n : ℕ)
+      → Drives σ Reg n (choice (expand s) n .stores) → (t : ℕ)
       → On σ Reg (choice (expand s) n .cur) t ↔ ((i : ℕ) × (i ≤ t) × Match σ s i (suc t))
   the-choice-ends-the-matches s k K n D t =
       let signals = Iff·trans (any-of-is-on σ Reg (match-sigs (expand s) n .curs) t) (the-signals-mark-the-runs (expand s) K n D t) in

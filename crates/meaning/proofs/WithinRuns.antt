@@ -1,6 +1,6 @@
 -- A root within: it is on exactly where a match of seq2 ends inside which a match of seq1 lies.
 -- Example: `a within (b ##1 c)` is on at t where b held at t - 1, c holds at t, and a held at one of the two.
--- Assumes of both operands what refusals 3, 6, 8 and 9 leave, and that the stores drive their registers.
+-- Assumes of both operands what refusals 3, 6, 8 and 9 leave, and that the stores drive their registers (D in the proofs).
 use mathlib.Core.Bool.{Bool, true, false}
 use mathlib.Core.Path.{_≡_, refl, subst, subst⁻¹}
 use mathlib.Core.Logic.{_↔_, _⊎_, inl, inr, Iff·trans}
@@ -63,7 +63,8 @@ module _ (σ Reg : ℕ → ℕ → Bool) where
   EndedLately s₁ d t = (u : ℕ) × (i : ℕ) × (u ≤ t) × (t ≤ u + d) × AlternativeRuns σ s₁ i (suc u)
 
   -- One pair is on where seq2's signal is and a run of seq1 ended lately enough.
-  a-pair-is-on : (l : ℕ) (match-2 : Expr) (s₁ : List SeqStep) → Rule9 s₁ → (n : ℕ) → Drives σ Reg n (fitting-pair l match-2 s₁ n .stores) → (t : ℕ)
+  a-pair-is-on : (l : ℕ) (match-2 : Expr) (s₁ : List SeqStep) → Rule9 s₁ → (n : ℕ)
+      → Drives σ Reg n (fitting-pair l match-2 s₁ n .stores) → (t : ℕ)
       → On σ Reg (fitting-pair l match-2 s₁ n .cur) t ↔ (On σ Reg match-2 t × EndedLately s₁ (l - window-len s₁) t)
   a-pair-is-on l match-2 s₁ F n D t = (λ (h, v). (h, outward (slid .0 v)), λ (h, v). (h, slid .1 (inward v)))
     where
@@ -99,7 +100,8 @@ module _ (σ Reg : ℕ → ℕ → Bool) where
   FitsIn l s₁ t = (y : SeqAlt) × In y s₁ × (window-len (y .steps) ≤ l) × EndedLately (y .steps) (l - window-len (y .steps)) t
 
   -- One of an alternative's pairs is on where its signal is and a run of seq1 fits; what does not fit has no pair.
-  one-of-the-pairs-is-on : (l : ℕ) (match-2 : Expr) (s₁ : List SeqAlt) → Rules9 s₁ → (n : ℕ) → Drives σ Reg n (pairs l match-2 s₁ n .stores) → (t : ℕ)
+  one-of-the-pairs-is-on : (l : ℕ) (match-2 : Expr) (s₁ : List SeqAlt) → Rules9 s₁ → (n : ℕ)
+      → Drives σ Reg n (pairs l match-2 s₁ n .stores) → (t : ℕ)
       → AnyOn σ Reg (pairs l match-2 s₁ n .curs) t ↔ (On σ Reg match-2 t × FitsIn l s₁ t)
   one-of-the-pairs-is-on l match-2 [] K n D t = (λ h. absurd h, λ (h, (y, m, w, x)). absurd m)
   one-of-the-pairs-is-on l match-2 (y ∷ ys) K n D t =
@@ -154,7 +156,8 @@ module _ (σ Reg : ℕ → ℕ → Bool) where
   PairEnds s₁ s₂ t = (y : SeqAlt) × (i : ℕ) × In y s₂ × AlternativeRuns σ (y .steps) i (suc t) × FitsIn (window-len (y .steps)) s₁ t
 
   -- One of all pairs is on where such a pair ends.
-  one-of-all-pairs-is-on : (s₁ s₂ : List SeqAlt) → Rules9 s₁ → Rules9 s₂ → (n : ℕ) → Drives σ Reg n (all-pairs s₁ s₂ n .stores) → (t : ℕ)
+  one-of-all-pairs-is-on : (s₁ s₂ : List SeqAlt) → Rules9 s₁ → Rules9 s₂ → (n : ℕ)
+      → Drives σ Reg n (all-pairs s₁ s₂ n .stores) → (t : ℕ)
       → AnyOn σ Reg (all-pairs s₁ s₂ n .curs) t ↔ PairEnds s₁ s₂ t
   one-of-all-pairs-is-on s₁ [] K₁ K₂ n D t = (λ h. absurd h, λ (y, i, m, x, f). absurd m)
   one-of-all-pairs-is-on s₁ (y ∷ ys) K₁ K₂ n D t =
@@ -202,7 +205,8 @@ module _ (σ Reg : ℕ → ℕ → Bool) where
           let p : i < suc t = alternative-no-empty σ (y₂ .steps) (rule-9-gives-12 (y₂ .steps) (Ky y₂ m₂)) i (suc t) r₂ in
           (i, omega arith, (i′, suc u, seq2 i (suc t) .1 (y₂, m₂, r₂), omega arith, omega arith, seq1 i′ (suc u) .1 (y₁, m₁, r₁)))
 
-      inside : (i i′ j′ : ℕ) → i ≤ i′ → j′ ≤ suc t → RunsOfAny σ (expand x) i′ j′ → RunsOfAny σ (expand y) i (suc t) → PairEnds (expand x) (expand y) t
+      inside : (i i′ j′ : ℕ) → i ≤ i′ → j′ ≤ suc t → RunsOfAny σ (expand x) i′ j′ → RunsOfAny σ (expand y) i (suc t)
+          → PairEnds (expand x) (expand y) t
       inside i i′ zero l l′ (y₁, m₁, r₁) (y₂, m₂, r₂) =
           absurd (omega (arith, alternative-no-empty σ (y₁ .steps) (rule-9-gives-12 (y₁ .steps) (Kx y₁ m₁)) i′ zero r₁))
       inside i i′ (suc u) l l′ (y₁, m₁, r₁) (y₂, m₂, r₂) =

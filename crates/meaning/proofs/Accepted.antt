@@ -52,18 +52,15 @@ accepted-alternatives s rule-7 e y m = (rule-7 y m, none-misplaced 0 (expand s) 
 accepted-unconditional : (room : ℕ) (s : Seq) → Ranged s → Walkable room s → first-misplaced 0 (expand s) ≡ nowhere → Unconditional s
     → Regular s × Rules7And12 (expand s)
 accepted-unconditional room s R W e U =
-    (an-unconditional-tree-is-regular room s R W U, accepted-alternatives s (rule-7-without-throughout s U) e)
+    let regular = an-unconditional-tree-is-regular room s R W U in (regular, accepted-alternatives s (rule-7-without-throughout s regular) e)
 
 -- The whole tree. Every within has plain operands, so that 12 need not be looked for there.
 pub an-accepted-tree-is-acceptable : (room : ℕ) (s : Seq) → Ranged s → WalkableRoot room s → misplaced s ≡ nowhere → ThroughoutOnTop s → Acceptable s
 unfolding Ranged Walkable WalkableRoot misplaced
 an-accepted-tree-is-acceptable room (within n x y) R W e U =
-    let pairs = W .2 in (
-      an-unconditional-tree-is-regular room x (R .0) (W .0) (U .0),
-      an-unconditional-tree-is-regular room y (R .1) (W .1) (U .1),
-      rules-9 x (U .0) (pairs .one),
-      rules-9 y (U .1) (pairs .two),
-    )
+    let one = an-unconditional-tree-is-regular room x (R .0) (W .0) (U .0) in
+    let two = an-unconditional-tree-is-regular room y (R .1) (W .1) (U .1) in
+    (one, two, rules-9 x one (W .2 .one), rules-9 y two (W .2 .two))
 an-accepted-tree-is-acceptable room (atom n a) R W e U = accepted-unconditional room (atom n a) R W e U
 an-accepted-tree-is-acceptable room (delay n l r m x) R W e U = accepted-unconditional room (delay n l r m x) R W e U
 an-accepted-tree-is-acceptable room (consec n s m x) R W e U = accepted-unconditional room (consec n s m x) R W e U

@@ -4,78 +4,78 @@ use mathlib.Core.Path.{_≡_, refl, subst⁻¹}
 use mathlib.Core.Logic.{inl, inr}
 use mathlib.Core.List.{List, [], _∷_, _++_}
 use Prim.Native.Nat.{ℕ, zero, suc, _-_}
-use Rattle.meaning.specs.Tree.{finite, unbounded, Seq, atom, delay, consec, goto, nonconsec, throughout, within, Operand, boolean, other, operand, below}
-use Rattle.meaning.specs.Alternative.{unguarded, SeqAlt, single, rehop, joined, join-lefts, hops, copies, copies-from, with-empty, over, consec-unbounded, expand}
-use Rattle.meaning.specs.Demand3.{Unconditional}
+use Rattle.meaning.specs.Tree.{finite, unbounded, Seq, atom, delay, consec, goto, nonconsec, throughout, within, operand, below}
+use Rattle.meaning.specs.Alternative.{Guard, unguarded, and-opt, SeqAlt, single, rehop, joined, join-lefts, hops, copies, copies-from, with-empty, consec-unbounded, expand}
 use Rattle.meaning.specs.declared.SeqTerm.{SeqTerm}
 use Rattle.meaning.specs.declared.SeqTerm.the-variants.{Bool as BoolTerm, Goto, Nonconsec, ConsecAtLeast, Empty}
 use Rattle.meaning.specs.declared.SeqHop.{SeqHop}
 use Rattle.meaning.specs.declared.SeqHop.the-variants.{Fixed}
 use Rattle.meaning.specs.declared.SeqStep.{SeqStep}
-use Rattle.meaning.proofs.Acceptable.{In}
-use Rattle.meaning.proofs.Members.{join-lefts-out, join-hops-out, copies-from-out, with-empty-out}
+use Rattle.meaning.proofs.Acceptable.{In, Regular}
+use Rattle.meaning.proofs.Members.{in-join-lefts, in-join-hops, in-copies-from, in-with-empty, over-a-boolean}
 
 -- Every one of the alternatives.
 abbrev pub Every : (SeqAlt → Type 0) → List SeqAlt → Type 0
 Every P alts = (y : SeqAlt) → In y alts → P y
 
--- What holds of single terms and is kept by joining holds of every alternative of a tree without throughout.
-module _ (P : SeqAlt → Type 0) (of-single : (x : SeqTerm) → P (single x)) (of-joined : (h : SeqHop) (l r : SeqAlt) → P l → P r → P (joined h l r)) where
-  every-single : (x : SeqTerm) → Every P (single x ∷ [])
-  every-single x y (inl e) = subst⁻¹ P e (of-single x)
-  every-single x y (inr m) = absurd m
+-- What holds of single terms, and of what is joined from two alternatives of which it holds, holds of every alternative.
+module _ (P : SeqAlt → Type 0) (of-single : (x : SeqTerm) → P (single x))
+    (of-joined : (h : SeqHop) (l r : SeqAlt) → P l → P r → P (joined h l r)) where
+  all-single : (x : SeqTerm) → Every P (single x ∷ [])
+  all-single x y (inl e) = subst⁻¹ P e (of-single x)
+  all-single x y (inr m) = absurd m
 
-  -- By the lists that an expansion is built by ..
-  every-join-lefts : (h : SeqHop) (ls rs : List SeqAlt) → Every P ls → Every P rs → Every P (join-lefts h ls rs)
-  every-join-lefts h ls rs F G y m =
-      let (l, r, p, q, e) = join-lefts-out h ls rs y m in subst⁻¹ P e (of-joined h l r (F l p) (G r q))
+  all-join-lefts : (h : SeqHop) (ls rs : List SeqAlt) → Every P ls → Every P rs → Every P (join-lefts h ls rs)
+  all-join-lefts h ls rs L R y m =
+      let (l, r, p, q, e) = in-join-lefts h ls rs y .0 m in subst⁻¹ P e (of-joined h l r (L l p) (R r q))
 
-  every-copies : (base : List SeqAlt) (k : ℕ) → Every P base → Every P (copies base k)
-  every-copies base zero F y m = F y m
-  every-copies base (suc k) F y m = every-join-lefts (Fixed 1) (copies base k) base (every-copies base k F) F y m
+  pub of-every-copy : (base : List SeqAlt) (c : ℕ) → Every P base → Every P (copies base c)
+  of-every-copy base zero B = B
+  of-every-copy base (suc c) B = all-join-lefts (Fixed 1) (copies base c) base (of-every-copy base c B) B
 
-  every-with-empty : (m : ℕ) (alts : List SeqAlt) → Every P alts → Every P (with-empty m alts)
-  every-with-empty m alts F y p =
-      elim (with-empty-out m alts y p) [ inl e ↦ subst⁻¹ P (e .0) (of-single Empty) | inr q ↦ F y q ]
+  all-with-empty : (m : ℕ) (alts : List SeqAlt) → Every P alts → Every P (with-empty m alts)
+  all-with-empty m alts B y p = elim (in-with-empty m alts y .0 p) [ inl e ↦ subst⁻¹ P (e .0) (of-single Empty) | inr q ↦ B y q ]
 
-  every-over : (x : Operand) (f : ℕ → List SeqAlt) → ((b : ℕ) → Every P (f b)) → Every P (over x f)
-  every-over (boolean b) f F y m = F b y m
-  every-over other f F y m = absurd m
-
-  -- .. and so by induction on the tree.
-  pub every-alternative : (s : Seq) → Unconditional s → Every P (expand s)
-  every-alternative (atom n a) U y p = every-single (BoolTerm a) y p
-  every-alternative (delay n l r m x) U y p =
-      let (h, i, q) = join-hops-out (hops m x) (expand l) (expand r) y p in
-      every-join-lefts h (expand l) (expand r) (every-alternative l (U .0)) (every-alternative r (U .1)) y q
-  every-alternative (consec n s m (finite zero)) U y p = every-single Empty y p
-  every-alternative (consec n s m (finite (suc x))) U y p =
-      let F = every-alternative s U in
-      let more = copies-from (expand s) (below m) (suc x - below m) in
-      every-with-empty m more
-      (λ z q. let (c, l, u, w) = copies-from-out (expand s) (below m) (suc x - below m) z q in every-copies (expand s) c F z w) y p
-  every-alternative (consec n s m unbounded) U y p =
-      every-over (operand s) (consec-unbounded m)
-      (λ b. every-with-empty m (single (ConsecAtLeast b (suc (below m))) ∷ []) (every-single (ConsecAtLeast b (suc (below m))))) y p
-  every-alternative (goto n s k) U y p = every-over (operand s) (λ b. single (Goto b k) ∷ []) (λ b. every-single (Goto b k)) y p
-  every-alternative (nonconsec n s k) U y p =
-      every-over (operand s) (λ b. single (Nonconsec b k) ∷ []) (λ b. every-single (Nonconsec b k)) y p
-  every-alternative (throughout n c s) U y p = absurd U
-  every-alternative (within n s₁ s₂) U y p = absurd p
+  pub of-every-alternative : (s : Seq) → Regular s → Every P (expand s)
+  of-every-alternative (atom n a) k = all-single (BoolTerm a)
+  of-every-alternative (delay n l r m x) k =
+      let L = of-every-alternative l (k .0) in
+      let R = of-every-alternative r (k .1) in
+      λ y p. let (h, i, q) = in-join-hops (hops m x) (expand l) (expand r) y .0 p in all-join-lefts h (expand l) (expand r) L R y q
+  of-every-alternative (consec n s m (finite zero)) k = all-single Empty
+  of-every-alternative (consec n s m (finite (suc x))) k =
+      let B = of-every-alternative s (k .0) in
+      all-with-empty m (copies-from (expand s) (below m) (suc x - below m))
+      (λ y p. let (c, l, u, q) = in-copies-from (expand s) (below m) (suc x - below m) y .0 p in of-every-copy (expand s) c B y q)
+  of-every-alternative (consec n s m unbounded) k =
+      over-a-boolean (operand s) k (consec-unbounded m) (Every P)
+      (λ b. all-with-empty m (single (ConsecAtLeast b (suc (below m))) ∷ []) (all-single (ConsecAtLeast b (suc (below m)))))
+  of-every-alternative (goto n s k) q =
+      over-a-boolean (operand s) (q .0) (λ b. single (Goto b k) ∷ []) (Every P) (λ b. all-single (Goto b k))
+  of-every-alternative (nonconsec n s k) q =
+      over-a-boolean (operand s) (q .0) (λ b. single (Nonconsec b k) ∷ []) (Every P) (λ b. all-single (Nonconsec b k))
+  of-every-alternative (throughout n c s) k = absurd k
+  of-every-alternative (within n s₁ s₂) k = absurd k
 
 -- No guard, for want of a condition.
-pub no-guards : (s : Seq) → Unconditional s → Every (λ y. y .guard ≡ unguarded) (expand s)
-no-guards s U = every-alternative (λ y. y .guard ≡ unguarded) (λ x. refl) (λ h l r p q. rw (p, q) refl) s U
-
--- At least one step.
-abbrev pub SomeStep : List SeqStep → Type 0
-SomeStep [] = ⊥
-SomeStep (s ∷ ss) = Unit {0}
-
--- A joined alternative is no shorter than its left part.
-pub some-step : (s : Seq) → Unconditional s → Every (λ y. SomeStep (y .steps)) (expand s)
-some-step s U = every-alternative (λ y. SomeStep (y .steps)) (λ x. tt) (λ h l r p q. longer (l .steps) (rehop h (r .steps)) p) s U
+pub no-guards : (s : Seq) → Regular s → Every (λ y. y .guard ≡ unguarded) (expand s)
+no-guards = of-every-alternative (λ y. y .guard ≡ unguarded) (λ x. refl) (λ h l r p q. both (l .guard) (r .guard) p q)
   where
-    longer : (ls rs : List SeqStep) → SomeStep ls → SomeStep (ls ++ rs)
-    longer [] rs p = absurd p
-    longer (x ∷ ls) rs p = tt
+    both : (g h : Guard) → g ≡ unguarded → h ≡ unguarded → and-opt g h ≡ unguarded
+    both g h p q = rw (p, q) refl
+
+-- There is a step.
+abbrev pub HasStep : List SeqStep → Type 0
+HasStep [] = ⊥
+HasStep (s ∷ ss) = Unit {0}
+
+-- A joined alternative has the steps of the left one.
+pub joined-has-step : (h : SeqHop) (l r : SeqAlt) → HasStep (l .steps) → HasStep (r .steps) → HasStep (joined h l r .steps)
+joined-has-step h l r p q = go (l .steps) p
+  where
+    go : (ss : List SeqStep) → HasStep ss → HasStep (ss ++ rehop h (r .steps))
+    go [] p = absurd p
+    go (s ∷ ss) p = tt
+
+pub has-step : (s : Seq) → Regular s → Every (λ y. HasStep (y .steps)) (expand s)
+has-step = of-every-alternative (λ (y : SeqAlt). HasStep (y .steps)) (λ x. tt) joined-has-step

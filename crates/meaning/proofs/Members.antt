@@ -1,124 +1,199 @@
--- Which alternatives stand in an expansion, both ways for each of the lists it is built by: `..-out` says what a member is
--- made of, `..-in` that everything so made is a member. Assumes nothing.
-use mathlib.Core.Path.{_≡_, refl, subst}
-use mathlib.Core.Logic.{_⊎_, inl, inr}
+-- Which alternatives stand in an expansion, list by list; and that there is at least one.
+-- Example: those of a joined list are the joins of a member of the left with a member of the right.
+-- The last assumes of the tree what refusals 3, 6 and 8 leave, and no throughout.
+use mathlib.Core.Path.{_≡_, refl, subst, subst⁻¹}
+use mathlib.Core.Logic.{_↔_, _⊎_, inl, inr, Iff·rfl, Iff·symm, Iff·trans}
 use mathlib.Core.List.{List, [], _∷_, _++_}
-use Prim.Native.Nat.{ℕ, zero, suc, _+_, _≤_, _<_}
+use Prim.Native.Nat.{ℕ, zero, suc, _+_, _-_, _≤_, _<_}
 use native.Mathlib.Omega.{arith}
 use native.Mathlib.Decide.{ℕ-discrete}
+use Rattle.meaning.specs.Tree.{Max, finite, unbounded, Seq, atom, delay, consec, goto, nonconsec, throughout, within, Operand, boolean, other, operand, below}
+use Rattle.meaning.specs.Match.{UpTo}
+use Rattle.meaning.specs.Lowerable.{IsBoolean}
 use Rattle.meaning.specs.Expression.{any, a·}
-use Rattle.meaning.specs.Alternative.{guard, and-opt, SeqAlt, alternative, single, joined, join-rights, join-lefts, join-hops, copies, copies-from, with-empty, guard-each}
-use Rattle.meaning.specs.declared.SeqTerm.the-variants.{Empty}
+use Rattle.meaning.specs.Alternative.{guard, and-opt, SeqAlt, alternative, single, joined, join-rights, join-lefts, join-hops, fixed-from, hops, copies, copies-from, with-empty, over, consec-unbounded, guard-each, expand}
+use Rattle.meaning.specs.declared.SeqTerm.{SeqTerm}
+use Rattle.meaning.specs.declared.SeqTerm.the-variants.{Bool as BoolTerm, Goto, Nonconsec, ConsecAtLeast, Empty}
 use Rattle.meaning.specs.declared.SeqHop.{SeqHop}
-use Rattle.meaning.proofs.Acceptable.{In}
+use Rattle.meaning.specs.declared.SeqHop.the-variants.{Fixed, AtLeast}
+use Rattle.meaning.proofs.Acceptable.{In, Regular}
+use Rattle.meaning.proofs.Bits.{either-iff, either-assoc, only-the-first}
+use Rattle.meaning.proofs.Joining.{Allows}
 
--- A list behind another: a member of the first, of the second, or one of the two.
-module _ {A : Type 0} where
-  pub in-l : (xs ys : List A) (x : A) → In x xs → In x (xs ++ ys)
-  in-l [] ys x m = absurd m
-  in-l (y ∷ xs) ys x (inl e) = inl e
-  in-l (y ∷ xs) ys x (inr m) = inr (in-l xs ys x m)
+-- Lists in general.
 
-  pub in-r : (xs ys : List A) (x : A) → In x ys → In x (xs ++ ys)
-  in-r [] ys x m = m
-  in-r (y ∷ xs) ys x m = inr (in-r xs ys x m)
+-- A member of two lists in a row is a member of one of them.
+pub in-append : {A : Type 0} (xs ys : List A) (x : A) → In x (xs ++ ys) ↔ (In x xs ⊎ In x ys)
+in-append [] ys x = (λ m. inr m, λ m. elim m [ inl p ↦ absurd p | inr q ↦ q ])
+in-append (z ∷ xs) ys x = Iff·trans (either-iff Iff·rfl (in-append xs ys x)) (Iff·symm either-assoc)
 
-  pub in-cases : (xs ys : List A) (x : A) → In x (xs ++ ys) → In x xs ⊎ In x ys
-  in-cases [] ys x m = inr m
-  in-cases (y ∷ xs) ys x (inl e) = inl (inl e)
-  in-cases (y ∷ xs) ys x (inr m) = elim (in-cases xs ys x m) [ inl p ↦ inl (inr p) | inr q ↦ inr q ]
+module _ {A B : Type 0} where
+  -- A list F xs that has the list f x for each x.
+  in-all : (f : A → List B) (F : List A → List B) → F [] ≡ [] → ((x : A) (xs : List A) → F (x ∷ xs) ≡ f x ++ F xs)
+      → (xs : List A) (y : B) → In y (F xs) ↔ ((x : A) × In x xs × In y (f x))
+  in-all f F none more [] y = rw none (λ m. absurd m, λ (x, m, e). absurd m)
+  in-all f F none more (z ∷ xs) y =
+      let rest = in-all f F none more xs y in
+      rw (more z xs) (Iff·trans (in-append (f z) (F xs) y) (outward rest, inward rest))
+    where
+      Rest : Type 0
+      Rest = In y (F xs) ↔ ((x : A) × In x xs × In y (f x))
 
--- One left alternative with each right one.
-pub join-rights-in : (h : SeqHop) (l : SeqAlt) (rs : List SeqAlt) (r : SeqAlt) → In r rs → In (joined h l r) (join-rights h l rs)
-join-rights-in h l [] r m = absurd m
-join-rights-in h l (x ∷ rs) r (inl e) = inl (rw e refl)
-join-rights-in h l (x ∷ rs) r (inr m) = inr (join-rights-in h l rs r m)
+      outward : Rest → In y (f z) ⊎ In y (F xs) → (x : A) × In x (z ∷ xs) × In y (f x)
+      outward rest (inl m) = (z, inl refl, m)
+      outward rest (inr m) = let (x, p, q) = rest .0 m in (x, inr p, q)
 
-pub join-rights-out : (h : SeqHop) (l : SeqAlt) (rs : List SeqAlt) (y : SeqAlt) → In y (join-rights h l rs)
-    → (r : SeqAlt) × In r rs × (y ≡ joined h l r)
-join-rights-out h l [] y m = absurd m
-join-rights-out h l (x ∷ rs) y (inl e) = (x, inl refl, e)
-join-rights-out h l (x ∷ rs) y (inr m) = let (r, p, e) = join-rights-out h l rs y m in (r, inr p, e)
+      inward : Rest → (x : A) × In x (z ∷ xs) × In y (f x) → In y (f z) ⊎ In y (F xs)
+      inward rest (x, inl w, m) = inl (subst (λ v. In y (f v)) w m)
+      inward rest (x, inr p, m) = inr (rest .1 (x, p, m))
 
--- Each left alternative with each right one.
-pub join-lefts-in : (h : SeqHop) (ls rs : List SeqAlt) (l r : SeqAlt) → In l ls → In r rs → In (joined h l r) (join-lefts h ls rs)
-join-lefts-in h [] rs l r p q = absurd p
-join-lefts-in h (x ∷ ls) rs l r (inl e) q =
-    in-l (join-rights h x rs) (join-lefts h ls rs) _ (subst (λ (z : SeqAlt). In (joined h l r) (join-rights h z rs)) e (join-rights-in h l rs r q))
-join-lefts-in h (x ∷ ls) rs l r (inr p) q = in-r (join-rights h x rs) (join-lefts h ls rs) _ (join-lefts-in h ls rs l r p q)
+  -- A list F xs that has f x for each x.
+  in-each : (f : A → B) (F : List A → List B) → F [] ≡ [] → ((x : A) (xs : List A) → F (x ∷ xs) ≡ f x ∷ F xs)
+      → (xs : List A) (y : B) → In y (F xs) ↔ ((x : A) × In x xs × (y ≡ f x))
+  in-each f F none more xs y =
+      let lists = in-all (λ x. f x ∷ []) F none more xs y in (
+        λ m. let (x, p, q) = lists .0 m in (x, p, only-the-first (λ b. b) .0 q),
+        λ (x, p, e). lists .1 (x, p, inl e),
+      )
 
-pub join-lefts-out : (h : SeqHop) (ls rs : List SeqAlt) (y : SeqAlt) → In y (join-lefts h ls rs)
-    → (l r : SeqAlt) × In l ls × In r rs × (y ≡ joined h l r)
-join-lefts-out h [] rs y m = absurd m
-join-lefts-out h (x ∷ ls) rs y m =
-    elim (in-cases (join-rights h x rs) (join-lefts h ls rs) y m) [
-      | inl p ↦ (let (r, q, e) = join-rights-out h x rs y p in (x, r, inl refl, q, e))
-      | inr p ↦ (let (l, r, a, b, e) = join-lefts-out h ls rs y p in (l, r, inr a, b, e))
-    ]
+-- A list F k n that has the lists f k, f (k + 1), .. for n numbers.
+in-numbered : {B : Type 0} (f : ℕ → List B) (F : ℕ → ℕ → List B) → ((k : ℕ) → F k zero ≡ [])
+    → ((k n : ℕ) → F k (suc n) ≡ f k ++ F (suc k) n)
+    → (k n : ℕ) (y : B) → In y (F k n) ↔ ((c : ℕ) × (k ≤ c) × (c < k + n) × In y (f c))
+in-numbered f F none more k zero y = rw (none k) (λ m. absurd m, λ (c, l, u, m). absurd (omega arith))
+in-numbered f F none more k (suc n) y =
+    let rest = in-numbered f F none more (suc k) n y in
+    rw (more k n) (Iff·trans (in-append (f k) (F (suc k) n) y) (outward rest, inward rest))
+  where
+    Rest : Type 0
+    Rest = In y (F (suc k) n) ↔ ((c : ℕ) × (suc k ≤ c) × (c < suc k + n) × In y (f c))
 
--- .. by each hop.
-pub join-hops-of-lefts : (hs : List SeqHop) (ls rs : List SeqAlt) (h : SeqHop) (y : SeqAlt) → In h hs → In y (join-lefts h ls rs)
-    → In y (join-hops hs ls rs)
-join-hops-of-lefts [] ls rs h y m p = absurd m
-join-hops-of-lefts (x ∷ hs) ls rs h y (inl e) p =
-    in-l (join-lefts x ls rs) (join-hops hs ls rs) y (subst (λ (z : SeqHop). In y (join-lefts z ls rs)) e p)
-join-hops-of-lefts (x ∷ hs) ls rs h y (inr m) p =
-    in-r (join-lefts x ls rs) (join-hops hs ls rs) y (join-hops-of-lefts hs ls rs h y m p)
+    outward : Rest → In y (f k) ⊎ In y (F (suc k) n) → (c : ℕ) × (k ≤ c) × (c < k + suc n) × In y (f c)
+    outward rest (inl m) = (k, omega arith, omega arith, m)
+    outward rest (inr m) = let (c, l, u, q) = rest .0 m in (c, omega arith, omega arith, q)
 
-pub join-hops-in : (hs : List SeqHop) (ls rs : List SeqAlt) (h : SeqHop) (l r : SeqAlt) → In h hs → In l ls → In r rs
-    → In (joined h l r) (join-hops hs ls rs)
-join-hops-in hs ls rs h l r m p q = join-hops-of-lefts hs ls rs h (joined h l r) m (join-lefts-in h ls rs l r p q)
+    inward : Rest → (c : ℕ) × (k ≤ c) × (c < k + suc n) × In y (f c) → In y (f k) ⊎ In y (F (suc k) n)
+    inward rest (c, l, u, m) =
+        elim (ℕ-discrete c k) [ yes w ↦ inl (subst (λ v. In y (f v)) w m) | no w ↦ inr (rest .1 (c, omega arith, omega arith, m)) ]
 
-pub join-hops-out : (hs : List SeqHop) (ls rs : List SeqAlt) (y : SeqAlt) → In y (join-hops hs ls rs)
-    → (h : SeqHop) × In h hs × In y (join-lefts h ls rs)
-join-hops-out [] ls rs y m = absurd m
-join-hops-out (x ∷ hs) ls rs y m =
-    elim (in-cases (join-lefts x ls rs) (join-hops hs ls rs) y m) [
-      | inl p ↦ (x, inl refl, p)
-      | inr p ↦ (let (h, a, b) = join-hops-out hs ls rs y p in (h, inr a, b))
-    ]
+-- The lists of an expansion.
 
--- Copies of one of the counts.
-pub copies-from-in : (base : List SeqAlt) (k count c : ℕ) (y : SeqAlt) → k ≤ c → c < k + count → In y (copies base c)
-    → In y (copies-from base k count)
-copies-from-in base k zero c y l u m = absurd (omega arith)
-copies-from-in base k (suc count) c y l u m =
-    elim (ℕ-discrete c k) [
-      | yes w ↦ in-l (copies base k) (copies-from base (suc k) count) y (subst (λ (z : ℕ). In y (copies base z)) w m)
-      | no w ↦ in-r (copies base k) (copies-from base (suc k) count) y
-          (copies-from-in base (suc k) count c y (omega arith) (omega arith) m)
-    ]
+-- Each left with each right.
+pub in-join-lefts : (h : SeqHop) (ls rs : List SeqAlt) (y : SeqAlt)
+    → In y (join-lefts h ls rs) ↔ ((l r : SeqAlt) × In l ls × In r rs × (y ≡ joined h l r))
+in-join-lefts h ls rs y = (
+  λ m. let (l, p, q) = lefts .0 m in let (r, p′, e) = rights l .0 q in (l, r, p, p′, e),
+  λ (l, r, p, p′, e). lefts .1 (l, p, rights l .1 (r, p′, e)),
+)
+  where
+    rights : (l : SeqAlt) → In y (join-rights h l rs) ↔ ((r : SeqAlt) × In r rs × (y ≡ joined h l r))
+    rights l = in-each (joined h l) (join-rights h l) refl (λ r rs. refl) rs y
 
-pub copies-from-out : (base : List SeqAlt) (k count : ℕ) (y : SeqAlt) → In y (copies-from base k count)
-    → (c : ℕ) × (k ≤ c) × (c < k + count) × In y (copies base c)
-copies-from-out base k zero y m = absurd m
-copies-from-out base k (suc count) y m =
-    elim (in-cases (copies base k) (copies-from base (suc k) count) y m) [
-      | inl p ↦ (k, omega arith, omega arith, p)
-      | inr p ↦ (let (c, l, u, q) = copies-from-out base (suc k) count y p in (c, omega arith, omega arith, q))
-    ]
+    lefts : In y (join-lefts h ls rs) ↔ ((l : SeqAlt) × In l ls × In y (join-rights h l rs))
+    lefts = in-all (λ l. join-rights h l rs) (λ ls. join-lefts h ls rs) refl (λ l ls. refl) ls y
 
--- Empty, or one of the others.
-pub with-empty-in : (m : ℕ) (alts : List SeqAlt) (y : SeqAlt) → In y alts → In y (with-empty m alts)
-with-empty-in zero alts y p = inr p
-with-empty-in (suc m) alts y p = p
+-- The member that two members make.
+pub joined-in : (h : SeqHop) (ls rs : List SeqAlt) (l r : SeqAlt) → In l ls → In r rs → In (joined h l r) (join-lefts h ls rs)
+joined-in h ls rs l r p q = in-join-lefts h ls rs (joined h l r) .1 (l, r, p, q, refl)
 
-pub with-empty-out : (m : ℕ) (alts : List SeqAlt) (y : SeqAlt) → In y (with-empty m alts) → ((y ≡ single Empty) × (m ≡ 0)) ⊎ In y alts
-with-empty-out zero alts y (inl e) = inl (e, refl)
-with-empty-out zero alts y (inr p) = inr p
-with-empty-out (suc m) alts y p = inr p
+-- .. over each hop.
+pub in-join-hops : (hs : List SeqHop) (ls rs : List SeqAlt) (y : SeqAlt)
+    → In y (join-hops hs ls rs) ↔ ((h : SeqHop) × In h hs × In y (join-lefts h ls rs))
+in-join-hops hs ls rs y = in-all (λ h. join-lefts h ls rs) (λ hs. join-hops hs ls rs) refl (λ h hs. refl) hs y
 
--- An alternative with the condition c besides its guard.
-abbrev pub under-condition : ℕ → SeqAlt → SeqAlt
-under-condition c y = alternative (y .steps) (and-opt (y .guard) (guard (any (a· c))))
+-- The hops of a finite range.
+in-fixed-from : (m n : ℕ) (h : SeqHop) → In h (fixed-from m n) ↔ ((d : ℕ) × (m ≤ d) × (d < m + n) × (h ≡ Fixed d))
+in-fixed-from m n h =
+    let lists = in-numbered (λ d. Fixed d ∷ []) fixed-from (λ d. refl) (λ d n. refl) m n h in (
+      λ i. let (d, l, u, q) = lists .0 i in (d, l, u, only-the-first (λ b. b) .0 q),
+      λ (d, l, u, e). lists .1 (d, l, u, inl e),
+    )
 
-pub guard-each-in : (c : ℕ) (alts : List SeqAlt) (x : SeqAlt) → In x alts → In (under-condition c x) (guard-each c alts)
-guard-each-in c [] x m = absurd m
-guard-each-in c (y ∷ alts) x (inl e) = inl (rw e refl)
-guard-each-in c (y ∷ alts) x (inr m) = inr (guard-each-in c alts x m)
+-- The hops of a range allow exactly the delays of the range.
+pub hops-allow-the-range : (m : ℕ) (x : Max) (d : ℕ) → ((h : SeqHop) × In h (hops m x) × Allows h d) ↔ ((m ≤ d) × UpTo d x)
+hops-allow-the-range m (finite n) d = (
+  λ (h, i, a). let (c, l, u, e) = in-fixed-from m (suc n - m) h .0 i in
+      let w : d ≡ c = subst (λ z. Allows z d) e a in
+      (omega arith, omega arith),
+  λ (l, u). (Fixed d, in-fixed-from m (suc n - m) (Fixed d) .1 (d, l, omega arith, refl), refl),
+)
+hops-allow-the-range m unbounded d = (outward, λ (l, u). (AtLeast m, inl refl, l))
+  where
+    outward : (h : SeqHop) × In h (AtLeast m ∷ []) × Allows h d → (m ≤ d) × Unit {0}
+    outward (h, inl e, a) = (subst (λ z. Allows z d) e a, tt)
+    outward (h, inr i, a) = absurd i
 
-pub guard-each-out : (c : ℕ) (alts : List SeqAlt) (y : SeqAlt) → In y (guard-each c alts)
-    → (x : SeqAlt) × In x alts × (y ≡ under-condition c x)
-guard-each-out c [] y m = absurd m
-guard-each-out c (x ∷ alts) y (inl e) = (x, inl refl, e)
-guard-each-out c (x ∷ alts) y (inr m) = let (z, p, e) = guard-each-out c alts y m in (z, inr p, e)
+-- k + 1 copies up to k + n.
+pub in-copies-from : (base : List SeqAlt) (k n : ℕ) (y : SeqAlt)
+    → In y (copies-from base k n) ↔ ((c : ℕ) × (k ≤ c) × (c < k + n) × In y (copies base c))
+in-copies-from base k n y = in-numbered (copies base) (copies-from base) (λ k. refl) (λ k n. refl) k n y
+
+-- Empty stands in front where m is 0.
+pub in-with-empty : (m : ℕ) (alts : List SeqAlt) (y : SeqAlt)
+    → In y (with-empty m alts) ↔ (((y ≡ single Empty) × (m ≡ 0)) ⊎ In y alts)
+in-with-empty zero alts y = (
+  λ p. elim p [ inl e ↦ inl (e, refl) | inr q ↦ inr q ],
+  λ p. elim p [ inl e ↦ inl (e .0) | inr q ↦ inr q ],
+)
+in-with-empty (suc m) alts y = (λ p. inr p, λ p. elim p [ inl e ↦ absurd (omega (arith, e .1)) | inr q ↦ q ])
+
+-- An alternative under one condition more.
+abbrev pub guarded-by : ℕ → SeqAlt → SeqAlt
+guarded-by c y = alternative (y .steps) (and-opt (y .guard) (guard (any (a· c))))
+
+-- Each alternative, under the condition c too.
+pub in-guard-each : (c : ℕ) (alts : List SeqAlt) (z : SeqAlt)
+    → In z (guard-each c alts) ↔ ((y : SeqAlt) × In y alts × (z ≡ guarded-by c y))
+in-guard-each c alts z = in-each (guarded-by c) (guard-each c) refl (λ y ys. refl) alts z
+
+-- What holds of the alternatives over any Boolean holds over the operand of goto, nonconsecutive and [*m:$].
+pub over-a-boolean : (o : Operand) → IsBoolean o → (f : ℕ → List SeqAlt) (P : List SeqAlt → Type 0) → ((b : ℕ) → P (f b)) → P (over o f)
+over-a-boolean (boolean b) B f P p = p b
+over-a-boolean other B f P p = absurd B
+
+-- max(m,1) is `suc (below m)`: it is not above n where m is not and n is 1 or more; it is not below m; and it is m from 1 on.
+pub below-is-less : (m n : ℕ) → m ≤ suc n → below m < suc n
+below-is-less zero n l = omega arith
+below-is-less (suc m) n l = omega arith
+
+pub below-is-at-most-1-less : (m : ℕ) → m ≤ suc (below m)
+below-is-at-most-1-less zero = omega arith
+below-is-at-most-1-less (suc m) = omega arith
+
+pub count-from-1 : (k : ℕ) → 1 ≤ k → suc (below k) ≡ k
+count-from-1 zero l = omega arith
+count-from-1 (suc k) l = refl
+
+-- There is a member.
+abbrev pub Some : List SeqAlt → Type 0
+Some alts = (y : SeqAlt) × In y alts
+
+-- Copies of a list that has a member have one.
+pub there-is-a-copy : (base : List SeqAlt) (c : ℕ) → Some base → Some (copies base c)
+there-is-a-copy base zero o = o
+there-is-a-copy base (suc c) (r, q) =
+    let (l, p) = there-is-a-copy base c (r, q) in (joined (Fixed 1) l r, joined-in (Fixed 1) (copies base c) base l r p q)
+
+-- A tree has an alternative.
+pub there-is-an-alternative : (s : Seq) → Regular s → Some (expand s)
+there-is-an-alternative (atom n a) k = (single (BoolTerm a), inl refl)
+there-is-an-alternative (delay n l r m x) k =
+    let (h, i, a) = hops-allow-the-range m x m .1 (omega arith, k .2) in
+    let (y, p) = there-is-an-alternative l (k .0) in
+    let (z, q) = there-is-an-alternative r (k .1) in
+    (joined h y z, in-join-hops (hops m x) (expand l) (expand r) (joined h y z) .1 (h, i, joined-in h (expand l) (expand r) y z p q))
+there-is-an-alternative (consec n s m (finite zero)) k = (single Empty, inl refl)
+there-is-an-alternative (consec n s m (finite (suc x))) k =
+    let (y, p) = there-is-a-copy (expand s) (below m) (there-is-an-alternative s (k .0)) in
+    let some-copies = copies-from (expand s) (below m) (suc x - below m) in
+    let q = in-copies-from (expand s) (below m) (suc x - below m) y .1 (below m, omega arith, omega (arith, below-is-less m x (k .1)), p) in
+    (y, in-with-empty m some-copies y .1 (inr q))
+there-is-an-alternative (consec n s m unbounded) k =
+    over-a-boolean (operand s) k (consec-unbounded m) Some
+    (λ b. (single (ConsecAtLeast b (suc (below m))), in-with-empty m _ _ .1 (inr (inl refl))))
+there-is-an-alternative (goto n s k) q =
+    over-a-boolean (operand s) (q .0) (λ b. single (Goto b k) ∷ []) Some (λ b. (single (Goto b k), inl refl))
+there-is-an-alternative (nonconsec n s k) q =
+    over-a-boolean (operand s) (q .0) (λ b. single (Nonconsec b k) ∷ []) Some (λ b. (single (Nonconsec b k), inl refl))
+there-is-an-alternative (throughout n c s) k = absurd k
+there-is-an-alternative (within n s₁ s₂) k = absurd k

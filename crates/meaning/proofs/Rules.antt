@@ -10,16 +10,15 @@ use Rattle.words.specs.Choice.{pick, pick-case}
 use Rattle.meaning.specs.Tree.{Seq, throughout}
 use Rattle.meaning.specs.Alternative.{Guard, unguarded, guard, SeqAlt, expand}
 use Rattle.meaning.specs.Refusals.{is-bool, is-fixed, plain-steps, plain, within-fits, is-empty, fixed-from-1, empties-fit, steps-fit, at, nowhere, first-misplaced}
-use Rattle.meaning.specs.Demand3.{Unconditional}
 use Rattle.meaning.specs.declared.SeqTerm.{SeqTerm}
 use Rattle.meaning.specs.declared.SeqTerm.the-variants.{Bool as BoolTerm, Goto, Nonconsec, ConsecAtLeast, Empty}
 use Rattle.meaning.specs.declared.SeqHop.{SeqHop}
 use Rattle.meaning.specs.declared.SeqHop.the-variants.{Fixed, AtLeast}
 use Rattle.meaning.specs.declared.SeqStep.{SeqStep}
 use Rattle.meaning.proofs.Taken.{first-taken, second-taken, false-is-not-true, both-hold}
-use Rattle.meaning.proofs.Acceptable.{IsBool, IsEmpty, NotEmpty, IsFixed, FixedFrom1, Plain, EmptiesFit, Rule7, Rule12, Rule9, Rules9}
-use Rattle.meaning.proofs.Members.{under-condition, guard-each-out}
-use Rattle.meaning.proofs.EveryAlternative.{Every, no-guards, SomeStep, some-step}
+use Rattle.meaning.proofs.Acceptable.{IsBool, IsEmpty, NotEmpty, IsFixed, FixedFrom1, Plain, EmptiesFit, Rule7, Rule12, Rule9, Rules9, Regular}
+use Rattle.meaning.proofs.Members.{guarded-by, in-guard-each}
+use Rattle.meaning.proofs.EveryAlternative.{Every, no-guards, HasStep, has-step}
 
 -- 7 and 9: Bool terms and fixed hops alone, as a test and as what it tells.
 
@@ -56,19 +55,19 @@ under-a-guard (guard x) ss p = p
 -- .. at a throughout, because the walk looked at what is under it ..
 pub rule-7-of-throughout : (c : ℕ) (s : Seq) → plain (expand s) ≡ true → (n : ℕ) → Every (λ y. Rule7 (y .guard) (y .steps)) (expand (throughout n c s))
 rule-7-of-throughout c s e n y m =
-    let (x, p, same) = guard-each-out c (expand s) y m in
-    rw same (under-a-guard (under-condition c x .guard) (x .steps) (every-plain (expand s) e x p))
+    let (x, p, same) = in-guard-each c (expand s) y .0 m in
+    rw same (under-a-guard (guarded-by c x .guard) (x .steps) (every-plain (expand s) e x p))
 
 -- .. elsewhere, because there is no guard.
-pub rule-7-without-throughout : (s : Seq) → Unconditional s → Every (λ y. Rule7 (y .guard) (y .steps)) (expand s)
-rule-7-without-throughout s U y m = rw (no-guards s U y m) tt
+pub rule-7-without-throughout : (s : Seq) → Regular s → Every (λ y. Rule7 (y .guard) (y .steps)) (expand s)
+rule-7-without-throughout s R y m = rw (no-guards s R y m) tt
 
 -- 9: the operands of a root within.
-pub rules-9 : (s : Seq) → Unconditional s → within-fits (expand s) ≡ true → Rules9 (expand s)
-rules-9 s U e y m =
-    plainly (y .steps) (some-step s U y m) (every-plain (expand s) (both-hold (plain (expand s)) e .0) y m)
+pub rules-9 : (s : Seq) → Regular s → within-fits (expand s) ≡ true → Rules9 (expand s)
+rules-9 s R e y m =
+    plainly (y .steps) (has-step s R y m) (every-plain (expand s) (both-hold (plain (expand s)) e .0) y m)
   where
-    plainly : (ss : List SeqStep) → SomeStep ss → Plain ss → Rule9 ss
+    plainly : (ss : List SeqStep) → HasStep ss → Plain ss → Rule9 ss
     plainly [] some p = absurd some
     plainly (x ∷ ss) some p = (p .0, p .2)
 

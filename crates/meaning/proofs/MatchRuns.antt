@@ -1,0 +1,33 @@
+-- The semantic half of demand 3: the match bit of a lowered tree is 1 at tick t exactly where a match of the tree ends with t,
+-- as the standard defines a match. For every acceptable tree, every first register, and any registers that the stores drive.
+-- Example: `a ##1 b` is stored into register 0 and matches where `r0 & b` is 1, that is where a held at the tick before.
+use mathlib.Core.Bool.{Bool}
+use mathlib.Core.Logic.{_↔_, Iff·trans}
+use Prim.Native.Nat.{ℕ, suc, _≤_}
+use lib.Dec.{T}
+use Rattle.meaning.specs.Tree.{Seq, atom, delay, consec, goto, nonconsec, throughout, within}
+use Rattle.meaning.specs.Match.{Match}
+use Rattle.meaning.specs.Root.{synth-seq-match}
+use Rattle.meaning.proofs.Values.{val, Drives}
+use Rattle.meaning.proofs.Acceptable.{Acceptable}
+use Rattle.meaning.proofs.On.{On, on-where-its-value-is-1}
+use Rattle.meaning.proofs.RootRuns.{the-choice-ends-the-matches}
+use Rattle.meaning.proofs.WithinRuns.{a-within-ends-the-matches}
+
+-- The same of the signal, by the kind of the root: a within, or a choice over the alternatives.
+the-signal-ends-the-matches : (σ Reg : ℕ → ℕ → Bool) (s : Seq) → Acceptable s → (n : ℕ)
+    → Drives σ Reg n (synth-seq-match s n .stores) → (t : ℕ)
+    → On σ Reg (synth-seq-match s n .cur) t ↔ ((i : ℕ) × (i ≤ t) × Match σ s i (suc t))
+the-signal-ends-the-matches σ Reg (within k x y) A n D t = a-within-ends-the-matches σ Reg k x y (A .0) (A .1) (A .2) (A .3) n D t
+the-signal-ends-the-matches σ Reg (atom k a) A n D t = the-choice-ends-the-matches σ Reg (atom k a) (A .0) (A .1) n D t
+the-signal-ends-the-matches σ Reg (delay k l r m x) A n D t = the-choice-ends-the-matches σ Reg (delay k l r m x) (A .0) (A .1) n D t
+the-signal-ends-the-matches σ Reg (consec k s m x) A n D t = the-choice-ends-the-matches σ Reg (consec k s m x) (A .0) (A .1) n D t
+the-signal-ends-the-matches σ Reg (goto k s c) A n D t = the-choice-ends-the-matches σ Reg (goto k s c) (A .0) (A .1) n D t
+the-signal-ends-the-matches σ Reg (nonconsec k s c) A n D t = the-choice-ends-the-matches σ Reg (nonconsec k s c) (A .0) (A .1) n D t
+the-signal-ends-the-matches σ Reg (throughout k c s) A n D t = the-choice-ends-the-matches σ Reg (throughout k c s) (A .0) (A .1) n D t
+
+-- The match bit is the standard's match; i ≤ t says that the match has a tick.
+pub the-match-is-the-standards : (σ Reg : ℕ → ℕ → Bool) (s : Seq) → Acceptable s → (n : ℕ) → Drives σ Reg n (synth-seq-match s n .stores) → (t : ℕ)
+    → T (val (synth-seq-match s n .cur) (Reg t) (σ t)) ↔ ((i : ℕ) × (i ≤ t) × Match σ s i (suc t))
+the-match-is-the-standards σ Reg s A n D t =
+    Iff·trans (on-where-its-value-is-1 σ Reg (synth-seq-match s n .cur) t) (the-signal-ends-the-matches σ Reg s A n D t)

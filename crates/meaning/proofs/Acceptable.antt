@@ -3,8 +3,8 @@
 use mathlib.Core.Path.{_≡_}
 use mathlib.Core.Logic.{_⊎_}
 use mathlib.Core.List.{List, [], _∷_}
-use Prim.Native.Nat.{ℕ, zero, suc, _≤_}
-use Rattle.meaning.specs.Tree.{Max, finite, unbounded, Seq, atom, delay, consec, goto, nonconsec, throughout, within, operand}
+use Prim.Native.Nat.{zero, suc, _≤_}
+use Rattle.meaning.specs.Tree.{finite, unbounded, Seq, atom, delay, consec, goto, nonconsec, throughout, within, operand}
 use Rattle.meaning.specs.Match.{UpTo}
 use Rattle.meaning.specs.Lowerable.{IsBoolean}
 use Rattle.meaning.specs.Alternative.{Guard, unguarded, guard, SeqAlt, expand}
@@ -14,10 +14,12 @@ use Rattle.meaning.specs.declared.SeqHop.{SeqHop}
 use Rattle.meaning.specs.declared.SeqHop.the-variants.{Fixed, AtLeast}
 use Rattle.meaning.specs.declared.SeqStep.{SeqStep}
 
+-- x stands in the list.
 abbrev pub In : {A : Type 0} → A → List A → Type 0
 In x [] = ⊥
 In x (y ∷ ys) = (x ≡ y) ⊎ In x ys
 
+-- The terms and hops that the refusals tell apart.
 abbrev pub IsBool : SeqTerm → Type 0
 IsBool (BoolTerm a) = Unit {0}
 IsBool (Goto b k) = ⊥
@@ -73,6 +75,7 @@ abbrev pub Rule9 : List SeqStep → Type 0
 Rule9 [] = ⊥
 Rule9 (s ∷ ss) = IsBool (s .term) × Plain ss
 
+-- Of every alternative.
 abbrev pub Rules7And12 : List SeqAlt → Type 0
 Rules7And12 alts = (y : SeqAlt) → In y alts → Rule7 (y .guard) (y .steps) × Rule12 (y .steps)
 

@@ -1,13 +1,13 @@
 -- 01's starred rows: a table of trees with the answer and the words that 01 gives, and one statement about all of them.
 use mathlib.Core.Path.{_≡_, refl}
 use mathlib.Core.List.{List, [], _∷_, _++_, map}
-use Prim.Native.Nat.{ℕ, suc}
+use Prim.Native.Nat.{ℕ}
 use lib.ListN.{replicate}
 use Rattle.words.specs.Choice.{pick}
 use Rattle.words.specs.Written.{written}
 use Rattle.meaning.specs.Tree.{nodeAt, treeAt, unlimited}
 use Rattle.meaning.specs.Listing.{word, rows, row-of, deepest, deepest-from}
-use Rattle.meaning.specs.Refusals.{lowest-failing, formed-node, uses-in, uses, range-node, table, counts, limited, and-then, deep-enough, over-boolean, walk-in, walk, pair-counts, limited-within, walk-root, room-of, first-misplaced, misplaced}
+use Rattle.meaning.specs.Refusals.{lowest-failing, formed-node, uses-in, uses, range-node, table, limited, and-then, deep-enough, over-boolean, walk-in, walk, limited-within, walk-root, room-of, first-misplaced, misplaced}
 use Rattle.meaning.specs.Lower.{synth-of, words-of, fits, after-walk, after-table, after-nothing, lower, output-after}
 use Rattle.meaning.specs.declared.Lowered.{Lowered}
 use Rattle.meaning.specs.declared.Lowered.the-variants.{Listing, Refused}

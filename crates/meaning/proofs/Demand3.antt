@@ -7,23 +7,22 @@
 -- tree end where its matches end (MatchRuns), and the words compute the assignments (Ticking).
 use mathlib.Core.Bool.{Bool, true, false}
 use mathlib.Core.Path.{_≡_, refl, sym, _∙_}
-use mathlib.Core.Logic.{_↔_, _⊎_, inl, inr, Iff·trans}
+use mathlib.Core.Logic.{_↔_, Iff·trans}
 use mathlib.Core.List.{List}
-use Prim.Native.Nat.{ℕ, zero, suc, _≤_}
+use Prim.Native.Nat.{ℕ, suc, _≤_}
 use native.Mathlib.Omega.{arith}
 use lib.Dec.{T}
 use lib.ListN.{length}
 use Rattle.meaning.specs.Tree.{root}
 use Rattle.meaning.specs.Match.{Match}
 use Rattle.meaning.specs.Expression.{Synth}
-use Rattle.meaning.specs.Listing.{listing, registers, deepest}
+use Rattle.meaning.specs.Listing.{registers, deepest}
 use Rattle.meaning.specs.Check.{check}
 use Rattle.meaning.specs.Tick.{tick}
 use Rattle.meaning.specs.Lower.{synth-of, words-of, lower}
 use Rattle.meaning.specs.Demand3.{ThroughoutOnTop, trace, Running}
 use Rattle.meaning.specs.declared.Lowered.the-variants.{Listing}
 use Rattle.meaning.specs.declared.Checked.the-variants.{Described}
-use Rattle.meaning.specs.declared.Ticked.{Ticked}
 use Rattle.meaning.specs.declared.Ticked.the-variants.{Match as MatchBit}
 use Rattle.meaning.proofs.Values.{val}
 use Rattle.meaning.proofs.Uses.{SynthUses}

@@ -1,7 +1,7 @@
 -- Which alternatives stand in an expansion, list by list; and that there is at least one.
 -- Example: those of a joined list are the joins of a member of the left with a member of the right.
 -- The last assumes of the tree what refusals 3, 6 and 8 leave, and no throughout.
-use mathlib.Core.Path.{_≡_, refl, subst, subst⁻¹}
+use mathlib.Core.Path.{_≡_, refl, subst}
 use mathlib.Core.Logic.{_↔_, _⊎_, inl, inr, Iff·rfl, Iff·symm, Iff·trans}
 use mathlib.Core.List.{List, [], _∷_, _++_}
 use Prim.Native.Nat.{ℕ, zero, suc, _+_, _-_, _≤_, _<_}
@@ -12,7 +12,6 @@ use Rattle.meaning.specs.Match.{UpTo}
 use Rattle.meaning.specs.Lowerable.{IsBoolean}
 use Rattle.meaning.specs.Expression.{any, a·}
 use Rattle.meaning.specs.Alternative.{guard, and-opt, SeqAlt, alternative, single, joined, join-rights, join-lefts, join-hops, fixed-from, hops, copies, copies-from, with-empty, over, consec-unbounded, guard-each, expand}
-use Rattle.meaning.specs.declared.SeqTerm.{SeqTerm}
 use Rattle.meaning.specs.declared.SeqTerm.the-variants.{Bool as BoolTerm, Goto, Nonconsec, ConsecAtLeast, Empty}
 use Rattle.meaning.specs.declared.SeqHop.{SeqHop}
 use Rattle.meaning.specs.declared.SeqHop.the-variants.{Fixed, AtLeast}

@@ -1,6 +1,6 @@
 -- The tree of a node from the trees of its operands, kind by kind, where the operands are lower. Assumes nothing else of the
 -- table, and has no fuel: recursion on the node number reads these.
-use mathlib.Core.Path.{_≡_, refl, sym, _∙_}
+use mathlib.Core.Path.{_≡_, refl, _∙_}
 use mathlib.Core.List.{List, [], _∷_, _++_}
 use Prim.Native.Nat.{ℕ, zero, suc, _<_}
 use native.Mathlib.Omega.{arith}
@@ -9,7 +9,7 @@ use lib.ListN.{length, getD, length-append, List·getD-append}
 use lib.Seq.{getD-at}
 use Rattle.words.specs.Choice.{pick}
 use Rattle.meaning.specs.declared.Node.{Node}
-use Rattle.meaning.specs.Tree.{Max, finite, unbounded, Seq, atom, delay, consec, goto, nonconsec, throughout, within, number, nodeAt, maxOf, treeOf, nowhere, trees, treeAt}
+use Rattle.meaning.specs.Tree.{Seq, atom, delay, consec, goto, nonconsec, throughout, within, nodeAt, maxOf, treeOf, nowhere, trees, treeAt}
 
 pub length-trees : (t : List ℕ) (n : ℕ) → length (trees t n) ≡ n
 length-trees t zero = refl

@@ -3,7 +3,7 @@
 -- Assumes of the tree what refusals 3, 6, 7, 8 and 12 leave, with throughout only on top, and that the stores drive their
 -- registers. In the proofs k is what the tree is, K what its alternatives passed, D that the stores drive.
 use mathlib.Core.Bool.{Bool}
-use mathlib.Core.Path.{_≡_, refl, subst, subst⁻¹}
+use mathlib.Core.Path.{refl, subst, subst⁻¹}
 use mathlib.Core.Logic.{_↔_, _⊎_, inl, inr, Iff·rfl, Iff·trans}
 use mathlib.Core.List.{List, [], _∷_}
 use Prim.Native.Nat.{ℕ, zero, suc, _+_, _≤_}

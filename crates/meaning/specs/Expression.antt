@@ -1,7 +1,6 @@
 -- Expressions over atoms and registers, and the assignments that a lowering makes of them.
 -- Example: `a ##1 b` stores `any (a· 0)` into register 0, and matches where `and· (r· 0) (any (a· 1))` is 1.
-use mathlib.Core.Path.{_≡_}
-use mathlib.Core.List.{List, [], _∷_, _++_}
+use mathlib.Core.List.{List, _∷_, _++_}
 use Prim.Native.Nat.{ℕ, _+_}
 use lib.ListN.{length}
 

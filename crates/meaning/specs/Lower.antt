@@ -1,7 +1,7 @@
 -- The whole answer of lowering (demand 2): a function of the tree's words, the lengths of work and output, and the first
 -- register number; the public entry passes 0.
 -- Example: for the words of `a ##1 b`, 16 words of work an entry and 8 of output, the answer is Listing 1 8 2.
-use mathlib.Core.List.{List, [], _∷_}
+use mathlib.Core.List.{List}
 use Prim.Native.Nat.{ℕ, _+_}
 use lib.Dec.{ltb}
 use lib.ListN.{length}
@@ -14,7 +14,6 @@ use Rattle.meaning.specs.Listing.{listing, deepest}
 use Rattle.meaning.specs.Refusals.{table, walk-root, room-of, Found, at, nowhere, misplaced}
 use Rattle.meaning.specs.declared.Table.{Table}
 use Rattle.meaning.specs.declared.Table.the-variants.{Formed, Refused as Misformed}
-use Rattle.meaning.specs.declared.Counts.{Counts}
 use Rattle.meaning.specs.declared.Walked.{Walked}
 use Rattle.meaning.specs.declared.Walked.the-variants.{Counted, Refused as Stopped}
 use Rattle.meaning.specs.declared.Lowered.{Lowered}

@@ -1,11 +1,11 @@
 -- What is known of a tree once the table's checks and the walk let it pass: what the later stages of lowering ask for.
 -- Example: of `a ##[0:255] b`, that it has at most 256 alternatives; of `a ##[0:256] b` it does not hold.
-use mathlib.Core.Bool.{Bool, true, false}
+use mathlib.Core.Bool.{true}
 use mathlib.Core.Path.{_≡_}
 use mathlib.Core.List.{List}
 use Prim.Native.Nat.{ℕ, zero, suc, _+_, _*_, _≤_, _<_}
 use lib.ListN.{length}
-use Rattle.meaning.specs.Tree.{Max, finite, unbounded, Seq, atom, delay, consec, goto, nonconsec, throughout, within, Operand, boolean, other, operand, nodeAt, nodes, unlimited}
+use Rattle.meaning.specs.Tree.{finite, unbounded, Seq, atom, delay, consec, goto, nonconsec, throughout, within, Operand, boolean, other, operand, nodeAt, nodes, unlimited}
 use Rattle.meaning.specs.Match.{UpTo}
 use Rattle.meaning.specs.declared.Node.{Node}
 use Rattle.meaning.specs.Alternative.{SeqAlt, expand}

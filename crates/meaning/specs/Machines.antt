@@ -1,6 +1,6 @@
 -- The three machines of sva_fsm.rs, each over the activation `act` and the Boolean b, from register n on.
 -- Example: `b[->1]` led by constant one stores `(r0 | 1) & ~b` into register 0 and matches where `b & (r0 | 1)` is 1.
-use mathlib.Core.List.{List, [], _∷_}
+use mathlib.Core.List.{[], _∷_}
 use Prim.Native.Nat.{ℕ, zero, suc}
 use Rattle.meaning.specs.Tree.{below}
 use Rattle.meaning.specs.Expression.{Expr, a·, r·, any, not·, and·, or·, gto, ncx, crl, store, Synth, synth, also, andThen}

@@ -1,9 +1,9 @@
 -- One alternative as a shift register (`synth_seq_pipeline` and `seq_delay_reg` of the source).
 -- Example: [a, b after 2] stores a into r0 and r0 into r1, and matches where `r1 & b` is 1.
-use mathlib.Core.List.{List, [], _∷_, _++_}
+use mathlib.Core.List.{List, [], _∷_}
 use Prim.Native.Nat.{ℕ, zero, suc}
 use Rattle.meaning.specs.Tree.{below}
-use Rattle.meaning.specs.Expression.{Expr, a·, r·, zero·, one·, any, and·, or·, seq, arm, store, Synth, synth, also, andThen}
+use Rattle.meaning.specs.Expression.{Expr, r·, zero·, one·, and·, or·, seq, arm, store, Synth, synth, also, andThen}
 use Rattle.meaning.specs.Alternative.{Guard, unguarded, guard}
 use Rattle.meaning.specs.Machines.{bb, goto-fsm, nonconsec-fsm, consec-run-fsm}
 use Rattle.meaning.specs.declared.SeqTerm.{SeqTerm}

@@ -6,7 +6,7 @@ use Prim.Native.Nat.{ℕ, zero, suc, _+_, _*_, _/_, _%_}
 use lib.Dec.{eqb, leb, ltb}
 use lib.ListN.{length}
 use Rattle.words.specs.Choice.{pick}
-use Rattle.meaning.specs.Tree.{Max, finite, unbounded, Seq, atom, delay, consec, goto, nonconsec, throughout, within, number, Operand, boolean, other, operand, nodeAt, unlimited, nodes, below}
+use Rattle.meaning.specs.Tree.{finite, unbounded, Seq, atom, delay, consec, goto, nonconsec, throughout, within, number, Operand, boolean, other, operand, nodeAt, unlimited, nodes, below}
 use Rattle.meaning.specs.Expression.{Expr, a·, r·, zero·, one·, any, not·, and·, or·}
 use Rattle.meaning.specs.Alternative.{Guard, unguarded, guard, SeqAlt, expand}
 use Rattle.meaning.specs.declared.Node.{Node}

@@ -1,6 +1,5 @@
 -- The choice at the root (`synth_seq_match`, `synth_within` and `window_len` of the source).
 -- Example: `a[*1:2]` is `any a0` or `any (r0 & a)`; a lone `a` stays bare.
-use mathlib.Core.Bool.{Bool, true, false}
 use mathlib.Core.List.{List, [], _∷_, _++_}
 use Prim.Native.Nat.{ℕ, zero, suc, _+_, _-_}
 use lib.Dec.{leb}

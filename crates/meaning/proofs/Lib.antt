@@ -22,7 +22,7 @@ pub mod Taken
 pub mod Nodes
 pub mod Formed
 pub mod Ranges
-pub mod NotVisited
+pub mod AnUnvisitedOperand
 pub mod Walks
 pub mod Rules
 pub mod Accepted

@@ -1,0 +1,50 @@
+-- The tests of an argument, in the order of the definition.
+use Rattle.words.specs.Choice.{tests}
+use Rattle.meaning.specs.Check.{argument-fits}
+use Rattle.listing.proofs.Laws.{by-store}
+use borrow.Author.Needs.{needs}
+use Rattle.listing.proofs.argument_fits.Statement.{statement}
+use Rattle.listing.proofs.argument_fits.Tie as tie
+use Rattle.listing.proofs.argument_fits.Reads as reads
+use Rattle.listing.proofs.argument_fits.Lts as lts
+use Rattle.listing.proofs.is_store.Reads as is-store-reads
+
+-- src/lib.rt:111:13
+cast-a : tie.Need-cast-a
+cast-a c = search needs
+
+-- src/lib.rt:113:9
+returns : tie.Need-returns
+unfolding argument-fits
+returns c = search tests
+
+-- src/lib.rt:117:13
+returns-2 : tie.Need-returns-2
+unfolding argument-fits
+returns-2 c = search tests depth 9
+
+-- src/lib.rt:119:9
+returns-3 : tie.Need-returns-3
+unfolding argument-fits
+returns-3 c = search tests depth 9
+
+-- src/lib.rt:121:8
+is-store-requires : tie.Need-is-store-requires
+is-store-requires c κs = search needs
+
+-- src/lib.rt:123:13
+returns-4 : tie.Need-returns-4
+returns-4 c = search (by-store, tests) depth 9
+
+-- src/lib.rt:125:9
+returns-5 : tie.Need-returns-5
+returns-5 c = search (by-store, tests) depth 9
+
+-- src/lib.rt:107:1
+returns-6 : tie.Need-returns-6
+returns-6 c = search (by-store, tests) depth 9
+
+pub argument-fits-spec : {M : Type 1} → statement M
+argument-fits-spec =
+    tie.close
+    (tie.spec cast-a returns returns-2 returns-3 is-store-requires returns-4 returns-5 returns-6)

@@ -1,0 +1,27 @@
+-- A store counts one, by `is_store`.
+use Rattle.listing.proofs.Laws.{store-more, store-none}
+use borrow.Author.Needs.{needs}
+use Rattle.listing.proofs.stores_with.Statement.{statement}
+use Rattle.listing.proofs.stores_with.Tie as tie
+use Rattle.listing.proofs.stores_with.Reads as reads
+use Rattle.listing.proofs.stores_with.Lts as lts
+use Rattle.listing.proofs.is_store.Reads as is-store-reads
+
+-- src/lib.rt:78:8
+is-store-requires : tie.Need-is-store-requires
+is-store-requires c κs = search needs
+
+-- src/lib.rt:79:16
+add-result : tie.Need-add-result
+add-result c = search needs
+
+-- src/lib.rt:79:9
+returns : tie.Need-returns
+returns c = search store-more
+
+-- src/lib.rt:74:1
+returns-2 : tie.Need-returns-2
+returns-2 c = search store-none
+
+pub stores-with-spec : {M : Type 1} → statement M
+stores-with-spec = tie.close (tie.spec is-store-requires add-result returns returns-2)

@@ -48,6 +48,7 @@ abbrev pub Reader-own : Lft → Reader → Fml
 Reader-own κ d = Row (κ, tt) .own d (reader-value d ∷ [])
 
 module _ {M : Type 1} (𝓤 : URA M) (H : Heap 𝓤) (A : Atoms 𝓤) (W : Given 𝓤 H A) (κ : Lft) where
+  -- The reader as a declared type, and its laws.
   abbrev D : Declared
   D = T.the-type (namedLft 1 0 tt (κ, tt))
 

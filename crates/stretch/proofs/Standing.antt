@@ -1,5 +1,5 @@
 -- The reader on its way through a listing: what is known of it at each turn of `driving`'s loop, and what each call makes of that.
--- Nothing here speaks of machine code. Assumes nothing.
+-- Nothing here speaks of MIR. Assumes nothing.
 use mathlib.Core.Path.{_≡_, sym, ap, _∙_}
 use mathlib.Core.Bool.{Bool, true, false}
 use mathlib.Core.List.{List, [], _∷_}

@@ -4,7 +4,7 @@
 // expression and the store that ends it.
 //
 // Functions on a plain slice and a place do the reading. The reader's own functions take it apart and call them, no more:
-// the proof of a function over a struct that holds a reference goes by hand through its machine code. `driving` walks with
+// the proof of a function over a struct that holds a reference goes by hand through its MIR. `driving` walks with
 // the reader from assignment to assignment, and `stretch`, which others call, has plain parameters.
 ghost use mathlib.Core.Path.{_≡_};
 ghost use mathlib.Core.List.{[]};

@@ -1,4 +1,4 @@
--- `driving` meets its contract: a walk through its machine code, by hand. A reader is made, moved on from assignment to assignment
+-- `driving` meets its contract: a walk through its MIR, by hand. A reader is made, moved on from assignment to assignment
 -- by a loop, and read. Of the four functions that it calls only their contracts are used.
 -- The loop's invariant is `At x`: what is owned at the beginning of a turn, where the reader stands as `Standing.antt` says of x.
 -- A comment in brackets lists the context in front of a step; n locals stand in it from the last to the first.

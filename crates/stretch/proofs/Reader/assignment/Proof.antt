@@ -1,4 +1,4 @@
--- `Reader::assignment` meets its contract: a walk through its machine code, by hand. The reader is taken apart, and `assignment_at`
+-- `Reader::assignment` meets its contract: a walk through its MIR, by hand. The reader is taken apart, and `assignment_at`
 -- is called on its listing and its position. Of `assignment_at` only its contract is used.
 -- Assumes nothing.
 use mathlib.Core.Path.{_≡_, refl}

@@ -1,4 +1,4 @@
--- `Reader::at_another` meets its contract: a walk through its machine code, by hand. The reader is taken apart, and `another_at`
+-- `Reader::at_another` meets its contract: a walk through its MIR, by hand. The reader is taken apart, and `another_at`
 -- is called on its listing, its position and the register. Of `another_at` only its contract is used.
 -- Assumes nothing.
 use mathlib.Core.Path.{_≡_, refl}

@@ -1,4 +1,4 @@
--- `Reader::new` meets its contract: a walk through its machine code, by hand. The result is made of the slice passed and of 0.
+-- `Reader::new` meets its contract: a walk through its MIR, by hand. The result is made of the slice passed and of 0.
 -- A slice is Copy, so what it owns is had twice: once for the parameter at exit, and once inside the reader.
 -- Assumes nothing.
 use mathlib.Core.Path.{refl}

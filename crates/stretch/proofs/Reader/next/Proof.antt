@@ -1,4 +1,4 @@
--- `Reader::next` meets its contract: a walk through its machine code, by hand. The reader is taken apart, `assignment_end` is called
+-- `Reader::next` meets its contract: a walk through its MIR, by hand. The reader is taken apart, `assignment_end` is called
 -- on its listing and its position, and a reader is made of the listing and the answer. Of `assignment_end` only its contract is used.
 -- Assumes nothing.
 use mathlib.Core.Path.{_≡_, refl, ap}

@@ -3,7 +3,7 @@
 -- The loop's invariant is `At x`: what is owned at the beginning of a turn, where the reader stands as `Standing.antt` says of x.
 -- A comment in brackets lists the context in front of a step; n locals stand in it from the last to the first.
 -- Assumes nothing.
-use mathlib.Core.Path.{_≡_, refl, sym, ap, _∙_}
+use mathlib.Core.Path.{_≡_, refl, ap, _∙_}
 use mathlib.Core.Bool.{Bool, true, false, not}
 use mathlib.Core.List.{List, [], _∷_}
 use Prim.Native.Nat.{ℕ, _<_, _^_}

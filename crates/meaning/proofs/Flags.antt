@@ -309,7 +309,7 @@ guarded-guards c (y ∷ ys) some = by (y .guard)
 some-lefts : (h : SeqHop) (ls rs : List SeqAlt) → 1 ≤ length ls → 1 ≤ length rs → 1 ≤ length (join-lefts h ls rs)
 some-lefts h ls rs some-l some-r = let n = ap alternatives-of (tally-lefts h ls rs) in let p : 1 * 1 ≤ length ls * length rs = mul-le-mul some-l some-r in omega arith
 
-some-copies : (base : List SeqAlt) (k : ℕ) → 1 ≤ length base → 1 ≤ length (copies base k)
+pub some-copies : (base : List SeqAlt) (k : ℕ) → 1 ≤ length base → 1 ≤ length (copies base k)
 some-copies base zero some = some
 some-copies base (suc k) some = some-lefts (Fixed 1) (copies base k) base (some-copies base k some) some
 

@@ -32,7 +32,7 @@ pub fn read(t: &[u32], n: u32) -> meaning::Node
 pub const UNLIMITED: u32 = 4294967295;
 
 // Whether two tests hold, the second looked at where the first does.
-fn both(first: bool, second: bool) -> bool
+pub fn both(first: bool, second: bool) -> bool
     ensures { λ r. ⌜ r ≡ pick first second false ⌝ }
 {
     if first {

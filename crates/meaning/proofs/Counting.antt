@@ -1,5 +1,5 @@
 -- How many alternatives a node has and how many entries they take, from the counts of its operands: "counts multiply: hops
--- times left times right". And from their flags, whether all are plain and whether one is guarded.
+-- times left times right". (Whether all are plain and whether one is guarded: proofs/Flags.antt.)
 use mathlib.Core.Bool.{Bool, true, false}
 use mathlib.Core.Path.{_≡_, refl, sym, ap, ap₂, _∙_}
 use mathlib.Core.List.{List, [], _∷_, _++_}
@@ -106,10 +106,10 @@ tally-rights h l rs = tally-path _ _ (len rs) (ent rs)
     ent [] = omega arith
     ent (r ∷ rs) = omega (arith, ent rs, size-joined h l r)
 
-abbrev alternatives-of : Tally → ℕ
+abbrev pub alternatives-of : Tally → ℕ
 alternatives-of x = x .alternatives
 
-abbrev entries-of : Tally → ℕ
+abbrev pub entries-of : Tally → ℕ
 entries-of x = x .entries
 
 -- Left times right, for one hop.
@@ -122,7 +122,7 @@ tally-lefts h (l ∷ ls) rs =
     tally-path _ _ (omega (arith, ap alternatives-of a, ap alternatives-of b, ap alternatives-of c))
     (omega (arith, ap entries-of a, ap entries-of b, ap entries-of c))
 
-length-fixed-from : (m n : ℕ) → length (fixed-from m n) ≡ n
+pub length-fixed-from : (m n : ℕ) → length (fixed-from m n) ≡ n
 length-fixed-from m zero = refl
 length-fixed-from m (suc n) = ap suc (length-fixed-from (suc m) n)
 

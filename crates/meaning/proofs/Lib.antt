@@ -35,3 +35,4 @@ pub mod Bounds
 pub mod Ticking
 pub mod Demand3
 pub mod Counting
+pub mod Flags

@@ -1,0 +1,6 @@
+pub mod Bounds
+pub mod Leaves
+pub mod Stands
+pub mod NotVisited
+pub mod Walking
+pub mod AtRoot

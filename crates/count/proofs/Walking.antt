@@ -1,0 +1,256 @@
+-- The walk at a node from the answers below it, as the recursive code meets them; and what an answer that counts tells: its
+-- counts are small and stand for an expansion that is not empty.
+use mathlib.Core.Path.{_≡_, refl, sym, ap, _∙_}
+use mathlib.Core.Bool.{Bool, true, false, not}
+use mathlib.Core.List.{List, [], _∷_}
+use Prim.Native.Nat.{ℕ, zero, suc, _+_, _*_, _-_, _≤_, _<_}
+use native.Mathlib.Omega.{arith}
+use native.Mathlib.Decide.{ℕ-discrete}
+use lib.Dec.{eqb, ltb}
+use lib.ListN.{length}
+use borrow.Author.Tests.{eqb-true, eqb-false, eq-eqb, ne-eqb, lt-ltb, not-true}
+use Rattle.words.specs.Choice.{pick, pick-case, pick-true, pick-false}
+use Rattle.meaning.specs.Tree.{Max, finite, unbounded, Seq, atom, delay, consec, goto, nonconsec, throughout, within, number, operand, nodeAt, unlimited, maxOf, treeOf, treeAt, nodes}
+use Rattle.meaning.specs.Alternative.{SeqAlt, consec-finite, guard-each, expand}
+use Rattle.meaning.specs.Refusals.{entries, plain, counts, limited, and-then, deep-enough, walk-in, walk}
+use Rattle.meaning.specs.Lowerable.{WellFormed, FormedTable, Bounded, Walkable}
+use Rattle.meaning.specs.declared.Node.{Node}
+use Rattle.meaning.specs.declared.Counts.{Counts}
+use Rattle.meaning.specs.declared.Walked.{Walked}
+use Rattle.meaning.specs.declared.Walked.the-variants.{Counted, Refused}
+use Rattle.meaning.proofs.Nodes.{at-delay, at-throughout}
+use Rattle.meaning.proofs.Taken.{both-hold}
+use Rattle.meaning.proofs.Ranges.{a-formed-tree-is-ranged}
+use Rattle.meaning.proofs.Walks.{a-walked-tree-is-walkable, the-walk-counts-the-expansion}
+use Rattle.meaning.proofs.Flags.{AllLed, alternatives-are-led, some-alternatives}
+use Rattle.count.specs.Capped.{Small, product, times, not-plain, guarded-each}
+use Rattle.count.specs.Nodes.{Countable, Unvisited, limit, delay-counts, consec-counts, repeated, covered, is-repeated}
+use Rattle.count.proofs.Stands.{Stands, counts-stand, limit-stands, fixed-stands, at-least-stands, consec-stands, guarded-each-stands}
+use Rattle.count.proofs.NotVisited.{finite-max, unbounded-max, not-too-deep, consec-at}
+
+-- 10 and 11 hold of every node that the walk lets pass.
+walkable-is-bounded : (room : ℕ) (s : Seq) → Walkable room s → Bounded room (expand s)
+unfolding Walkable
+walkable-is-bounded room (atom n a) w = w
+walkable-is-bounded room (delay n l r m x) w = w .2
+walkable-is-bounded room (consec n s m (finite zero)) w = w
+walkable-is-bounded room (consec n s m (finite (suc x))) w = w .2
+walkable-is-bounded room (consec n s m unbounded) w = w .2
+walkable-is-bounded room (goto n s k) w = w .2
+walkable-is-bounded room (nonconsec n s k) w = w .2
+walkable-is-bounded room (throughout n c s) w = w .2
+walkable-is-bounded room (within n s₁ s₂) w = absurd w
+
+-- An answer that counts.
+module _ (room d : ℕ) (s : Seq) {r : Walked} {c : Counts} (e : r ≡ walk room d s) (q : r ≡ Counted c) where
+  answer-counts : c ≡ counts (expand s)
+  answer-counts = the-walk-counts-the-expansion room d s c (sym e ∙ q)
+
+  pub answer-stands : Stands c (expand s)
+  answer-stands = counts-stand answer-counts
+
+  pub answer-is-small : room ≤ 65536 → Small c
+  unfolding counts
+  answer-is-small h =
+      let b = walkable-is-bounded room s (a-walked-tree-is-walkable room d s c (sym e ∙ q)) in
+      rw answer-counts (record { few = omega (arith, b .few); short = omega (arith, b .fits) })
+
+-- .. of a node of a formed table has an alternative.
+pub answer-has-some : (t : List ℕ) (k room d : ℕ) {r : Walked} {c : Counts} → FormedTable t → k < nodes t → r ≡ walk room d (treeAt t k) → r ≡ Counted c
+    → 1 ≤ length (expand (treeAt t k))
+answer-has-some t k room d {r} {c} formed inside e q =
+    some-alternatives room (treeAt t k) (a-formed-tree-is-ranged t formed k inside) (a-walked-tree-is-walkable room d (treeAt t k) c (sym e ∙ q))
+
+number-of : (t : List ℕ) (n : ℕ) → number (treeAt t n) ≡ n
+unfolding treeAt
+number-of t n =
+    pick-case Numbered _ (λ _. refl) (λ _. pick-case Numbered _ (λ _. refl) (λ _. pick-case Numbered _ (λ _. refl)
+    (λ _. pick-case Numbered _ (λ _. refl) (λ _. pick-case Numbered _ (λ _. refl) (λ _. pick-case Numbered _ (λ _. refl) (λ _. refl))))))
+  where
+    Numbered : Seq → Type 0
+    Numbered s = number s ≡ n
+
+-- 4.
+pub too-deep : (t : List ℕ) (n room d : ℕ) → 256 < d → Refused 4 n ≡ walk room d (treeAt t n)
+unfolding walk deep-enough
+too-deep t n room d h = sym (pick-true _ _ (lt-ltb _ _ h) ∙ ap (Refused 4) (number-of t n))
+
+pub node-inside : (t : List ℕ) (n room d : ℕ) → Countable t n room d → n * 5 + 5 ≤ length t
+node-inside t n room d S = omega (arith, S .formed .whole, S .inside)
+
+pub node-few : (t : List ℕ) (n room d : ℕ) → Countable t n room d → n < 4096
+node-few t n room d S = omega (arith, S .formed .few, S .inside)
+
+-- A finite [*] but [*0] visits its operand.
+some-repetition : (room d n m x : ℕ) (s : Seq) → (x ≡ 0 → ⊥)
+    → walk-in room d (consec n s m (finite x)) ≡ and-then (walk room (d + 1) s) (pick (ltb 256 x) (Refused 5 n) (limited room n (consec-finite (expand s) m x)))
+unfolding walk-in walk
+some-repetition room d n m zero s f = absurd (f refl)
+some-repetition room d n m (suc x) s f = refl
+
+-- The walk at each kind whose operands are visited.
+module _ (t : List ℕ) (n room d : ℕ) (S : Countable t n room d) (h : d ≤ 256) where
+  w : WellFormed n (nodeAt t n)
+  w = S .formed .each n (S .inside)
+
+  abbrev below-it : ℕ → Walked
+  below-it k = walk room (d + 1) (treeAt t k)
+
+  at-a-delay : nodeAt t n .kind ≡ 2
+      → walk room d (treeAt t n) ≡ and-then (below-it (nodeAt t n .p)) (and-then (below-it (nodeAt t n .q)) (limited room n (expand (delay n (treeAt t (nodeAt t n .p)) (treeAt t (nodeAt t n .q)) (nodeAt t n .min) (maxOf (nodeAt t n .max))))))
+  unfolding walk-in walk
+  at-a-delay k = rw (at-delay t n k (w .delay-left k) (w .delay-right k)) (not-too-deep room d _ h)
+
+  at-a-throughout : nodeAt t n .kind ≡ 6
+      → walk room d (treeAt t n) ≡ and-then (below-it (nodeAt t n .q)) (pick (plain (expand (treeAt t (nodeAt t n .q)))) (limited room n (guard-each (nodeAt t n .p) (expand (treeAt t (nodeAt t n .q))))) (Refused 7 n))
+  unfolding walk-in walk
+  at-a-throughout k = rw (at-throughout t n k (w .throughout-under k)) (not-too-deep room d _ h)
+
+  at-a-repetition : nodeAt t n .kind ≡ 3 → (nodeAt t n .max ≡ 0 → ⊥) → (nodeAt t n .max ≡ unlimited → ⊥)
+      → walk room d (treeAt t n) ≡ and-then (below-it (nodeAt t n .p)) (pick (ltb 256 (nodeAt t n .max)) (Refused 5 n) (limited room n (consec-finite (expand (treeAt t (nodeAt t n .p))) (nodeAt t n .min) (nodeAt t n .max))))
+  at-a-repetition k f g =
+      rw (consec-at t n room d S h k (finite-max _ g)) (not-too-deep room d _ h ∙ some-repetition room d n _ _ _ f)
+
+-- What the node's counts decide, from the answers of its operands.
+module _ (t : List ℕ) (n room d : ℕ) (S : Countable t n room d) (h : d ≤ 256) where
+  abbrev tree-at : ℕ → Seq
+  tree-at k = treeAt t k
+
+  lower-inside : (k : ℕ) → k < n → k < nodes t
+  lower-inside k l = omega (arith, S .inside)
+
+  delay-decided : (v : Node) → v ≡ nodeAt t n → v .kind ≡ 2 → {x y : Walked} {l r : Counts} → x ≡ walk room (d + 1) (treeAt t (v .p)) → x ≡ Counted l
+      → y ≡ walk room (d + 1) (treeAt t (v .q)) → y ≡ Counted r
+      → limit room n (delay-counts v l r) ≡ limited room n (expand (delay n (treeAt t (v .p)) (treeAt t (v .q)) (v .min) (maxOf (v .max))))
+  unfolding delay-counts pick
+  delay-decided v e k {x} {y} {l} {r} a a′ b b′ =
+      let w : WellFormed n v = rw e (S .formed .each n (S .inside)) in
+      let ls = expand (treeAt t (v .p)) in
+      let rs = expand (treeAt t (v .q)) in
+      let s = answer-stands room (d + 1) (treeAt t (v .p)) a a′ in
+      let q = answer-stands room (d + 1) (treeAt t (v .q)) b b′ in
+      let some-l = answer-has-some t (v .p) room (d + 1) (S .formed) (lower-inside (v .p) (w .delay-left k)) a a′ in
+      let some-r = answer-has-some t (v .q) room (d + 1) (S .formed) (lower-inside (v .q) (w .delay-right k)) b b′ in
+      let led = alternatives-are-led (treeAt t (v .q)) in
+      elim (ℕ-discrete (v .max) unlimited) [
+        | yes at-least ↦ rw (eq-eqb (v .max) unlimited at-least) (limit-stands room n (S .rooms) (at-least-stands ls rs l r s q some-l some-r led (v .min)))
+        | no fixed ↦ rw (ne-eqb (v .max) unlimited fixed) (limit-stands room n (S .rooms) (fixed-stands ls rs l r s q some-l some-r led (v .min) (v .max) (w .delay-range k)))
+      ]
+
+  covered-decided : (v : Node) → v ≡ nodeAt t n → v .kind ≡ 6 → {x : Walked} {s : Counts} → x ≡ walk room (d + 1) (treeAt t (v .q)) → x ≡ Counted s
+      → covered room n s ≡ pick (plain (expand (treeAt t (v .q)))) (limited room n (guard-each (v .p) (expand (treeAt t (v .q))))) (Refused 7 n)
+  unfolding covered
+  covered-decided v e k {x} {s} a a′ =
+      let w : WellFormed n v = rw e (S .formed .each n (S .inside)) in
+      let q = answer-stands room (d + 1) (treeAt t (v .q)) a a′ in
+      let some = answer-has-some t (v .q) room (d + 1) (S .formed) (lower-inside (v .q) (w .throughout-under k)) a a′ in
+      ap (λ (b : Bool). pick b (limit room n (guarded-each s)) (Refused 7 n)) (q .plainly)
+      ∙ rw (limit-stands room n (S .rooms) (guarded-each-stands (v .p) (expand (treeAt t (v .q))) s q some)) refl
+
+  repeated-decided : (v : Node) → v ≡ nodeAt t n → v .kind ≡ 3 → (v .max ≡ 0 → ⊥) → {x : Walked} {s : Counts} → x ≡ walk room (d + 1) (treeAt t (v .p)) → x ≡ Counted s
+      → repeated room n v s ≡ pick (ltb 256 (v .max)) (Refused 5 n) (limited room n (consec-finite (expand (treeAt t (v .p))) (v .min) (v .max)))
+  unfolding repeated consec-counts
+  repeated-decided v e k f {x} {s} a a′ =
+      let w : WellFormed n v = rw e (S .formed .each n (S .inside)) in
+      let base = expand (treeAt t (v .p)) in
+      let q = answer-stands room (d + 1) (treeAt t (v .p)) a a′ in
+      let some = answer-has-some t (v .p) room (d + 1) (S .formed) (lower-inside (v .p) (w .consec-under k)) a a′ in
+      let led = alternatives-are-led (treeAt t (v .p)) in
+      rw (limit-stands room n (S .rooms) (consec-stands base s q some led (v .min) (v .max) f)) refl
+
+-- The returns of the code: v are the node's words, x and y the answers below it.
+module _ {t : List ℕ} {n room d : ℕ} {v : Node} (S : Countable t n room d) (h : d ≤ 256) (w : v ≡ nodeAt t n) where
+  delay-walk : v .kind ≡ 2 → walk room d (treeAt t n) ≡ and-then (walk room (d + 1) (treeAt t (v .p))) (and-then (walk room (d + 1) (treeAt t (v .q))) (limited room n (expand (delay n (treeAt t (v .p)) (treeAt t (v .q)) (v .min) (maxOf (v .max))))))
+  delay-walk k = rw w (at-a-delay t n room d S h (rw w at k))
+
+  pub left-refused : {number place : ℕ} {x : Walked} → v .kind ≡ 2 → x ≡ walk room (d + 1) (treeAt t (v .p)) → x ≡ Refused number place → x ≡ walk room d (treeAt t n)
+  unfolding and-then
+  left-refused k e q = q ∙ sym (delay-walk k ∙ rw (sym e ∙ q) refl)
+
+  pub right-refused : {number place : ℕ} {l : Counts} {x y : Walked} → v .kind ≡ 2 → x ≡ walk room (d + 1) (treeAt t (v .p)) → x ≡ Counted l
+      → y ≡ walk room (d + 1) (treeAt t (v .q)) → y ≡ Refused number place → y ≡ walk room d (treeAt t n)
+  unfolding and-then
+  right-refused k e q e′ q′ = q′ ∙ sym (delay-walk k ∙ rw (sym e ∙ q, sym e′ ∙ q′) refl)
+
+  pub delay-done : {l r : Counts} {x y z : Walked} → v .kind ≡ 2 → x ≡ walk room (d + 1) (treeAt t (v .p)) → x ≡ Counted l
+      → y ≡ walk room (d + 1) (treeAt t (v .q)) → y ≡ Counted r → z ≡ limit room n (delay-counts v l r) → z ≡ walk room d (treeAt t n)
+  unfolding and-then
+  delay-done k e q e′ q′ u = u ∙ delay-decided t n room d S h v w k e q e′ q′ ∙ sym (delay-walk k ∙ rw (sym e ∙ q, sym e′ ∙ q′) refl)
+
+  throughout-walk : v .kind ≡ 6 → walk room d (treeAt t n) ≡ and-then (walk room (d + 1) (treeAt t (v .q))) (pick (plain (expand (treeAt t (v .q)))) (limited room n (guard-each (v .p) (expand (treeAt t (v .q))))) (Refused 7 n))
+  throughout-walk k = rw w (at-a-throughout t n room d S h (rw w at k))
+
+  pub covered-operand-refused : {number place : ℕ} {x : Walked} → v .kind ≡ 6 → x ≡ walk room (d + 1) (treeAt t (v .q)) → x ≡ Refused number place → x ≡ walk room d (treeAt t n)
+  unfolding and-then
+  covered-operand-refused k e q = q ∙ sym (throughout-walk k ∙ rw (sym e ∙ q) refl)
+
+  pub covered-done : {s : Counts} {x z : Walked} → v .kind ≡ 6 → x ≡ walk room (d + 1) (treeAt t (v .q)) → x ≡ Counted s → z ≡ covered room n s → z ≡ walk room d (treeAt t n)
+  unfolding and-then
+  covered-done k e q u = u ∙ covered-decided t n room d S h v w k e q ∙ sym (throughout-walk k ∙ rw (sym e ∙ q) refl)
+
+  -- A finite [*] but [*0].
+  pub repeated-kind : {b : Bool} → b ≡ is-repeated v → b ≡ true → v .kind ≡ 3
+  unfolding is-repeated
+  repeated-kind e q = eqb-true _ _ (both-hold (eqb (v .kind) 3) (sym e ∙ q) .0)
+
+  repeated-max : {b : Bool} → b ≡ is-repeated v → b ≡ true → (v .max ≡ 0 → ⊥) × (v .max ≡ unlimited → ⊥)
+  unfolding is-repeated
+  repeated-max e q =
+      let (some, ends) = both-hold (not (eqb (v .max) 0)) (both-hold (eqb (v .kind) 3) (sym e ∙ q) .1) in
+      (eqb-false (v .max) 0 (not-true _ some), eqb-false (v .max) unlimited (not-true _ ends))
+
+  repetition-walk : {b : Bool} → b ≡ is-repeated v → b ≡ true
+      → walk room d (treeAt t n) ≡ and-then (walk room (d + 1) (treeAt t (v .p))) (pick (ltb 256 (v .max)) (Refused 5 n) (limited room n (consec-finite (expand (treeAt t (v .p))) (v .min) (v .max))))
+  repetition-walk e q =
+      let (some, ends) = repeated-max e q in rw w (at-a-repetition t n room d S h (rw w at (repeated-kind e q)) (rw w at some) (rw w at ends))
+
+  pub repeated-operand-refused : {number place : ℕ} {b : Bool} {x : Walked} → b ≡ is-repeated v → b ≡ true → x ≡ walk room (d + 1) (treeAt t (v .p)) → x ≡ Refused number place
+      → x ≡ walk room d (treeAt t n)
+  unfolding and-then
+  repeated-operand-refused p p′ e q = q ∙ sym (repetition-walk p p′ ∙ rw (sym e ∙ q) refl)
+
+  pub repeated-done : {b : Bool} {s : Counts} {x z : Walked} → b ≡ is-repeated v → b ≡ true → x ≡ walk room (d + 1) (treeAt t (v .p)) → x ≡ Counted s
+      → z ≡ repeated room n v s → z ≡ walk room d (treeAt t n)
+  unfolding and-then
+  repeated-done p p′ e q u =
+      u ∙ repeated-decided t n room d S h v w (repeated-kind p p′) (repeated-max p p′ .0) e q ∙ sym (repetition-walk p p′ ∙ rw (sym e ∙ q) refl)
+
+  -- The operands may be visited: u is the measure at entry.
+  words : WellFormed n v
+  words = rw w (S .formed .each n (S .inside))
+
+  pub left-lower : {u : ℕ} → n ≡ u → v .kind ≡ 2 → v .p < u
+  left-lower e k = omega (arith, words .delay-left k)
+
+  pub right-lower : {u : ℕ} → n ≡ u → v .kind ≡ 2 → v .q < u
+  right-lower e k = omega (arith, words .delay-right k)
+
+  pub covered-lower : {u : ℕ} → n ≡ u → v .kind ≡ 6 → v .q < u
+  covered-lower e k = omega (arith, words .throughout-under k)
+
+  pub repeated-lower : {u : ℕ} {b : Bool} → n ≡ u → b ≡ is-repeated v → b ≡ true → v .p < u
+  repeated-lower e p q = omega (arith, words .consec-under (repeated-kind p q))
+
+  lower-countable : (k : ℕ) → k < n → Countable t k room (d + 1)
+  lower-countable k l = record { formed = S .formed; inside = omega (arith, S .inside); rooms = S .rooms; deep = omega arith }
+
+  pub left-countable : v .kind ≡ 2 → Countable t (v .p) room (d + 1)
+  left-countable k = lower-countable _ (words .delay-left k)
+
+  pub right-countable : v .kind ≡ 2 → Countable t (v .q) room (d + 1)
+  right-countable k = lower-countable _ (words .delay-right k)
+
+  pub covered-countable : v .kind ≡ 6 → Countable t (v .q) room (d + 1)
+  covered-countable k = lower-countable _ (words .throughout-under k)
+
+  pub repeated-countable : {b : Bool} → b ≡ is-repeated v → b ≡ true → Countable t (v .p) room (d + 1)
+  repeated-countable p q = lower-countable _ (words .consec-under (repeated-kind p q))
+
+  pub delay-ranged : v .kind ≡ 2 → v .min ≤ v .max
+  delay-ranged k = words .delay-range k
+
+  pub repeated-ranged : {b : Bool} → b ≡ is-repeated v → b ≡ true → v .min ≤ v .max
+  repeated-ranged p q = words .consec-range (repeated-kind p q)
+
+  pub not-visited : (v .kind ≡ 2 → ⊥) → (v .kind ≡ 6 → ⊥) → Unvisited t n v
+  not-visited f g = record { formed = S .formed; inside = S .inside; words = w; no-delay = f; no-throughout = g }

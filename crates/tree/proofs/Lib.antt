@@ -1,0 +1,4 @@
+pub mod Tests
+pub mod Lowest
+pub mod Uses
+pub mod Checks

@@ -1,0 +1,300 @@
+-- The alternatives of a node from those of its operands, kind by kind, for a node that the checks and the walk let pass.
+use mathlib.Core.Path.{_≡_, refl, sym, ap, _∙_}
+use mathlib.Core.Bool.{Bool, true, false}
+use mathlib.Core.List.{List, [], _∷_}
+use Prim.Native.Nat.{ℕ, zero, suc, _+_, _*_, _-_, _<_, _≤_}
+use native.Mathlib.Omega.{arith}
+use native.Mathlib.Decide.{ℕ-discrete}
+use lib.Dec.{eqb, leb, ltb}
+use lib.ListN.{length}
+use borrow.Author.Tests.{lt-ltb, le-ltb, eq-eqb, ne-eqb, eqb-true, eqb-false, ltb-true, ltb-false, leb-false}
+use Rattle.words.specs.Choice.{pick, pick-true, pick-false}
+use Rattle.meaning.specs.declared.Node.{Node}
+use Rattle.meaning.specs.declared.SeqTerm.the-variants.{Bool as BoolTerm, Goto, Nonconsec, ConsecAtLeast, Empty}
+use Rattle.meaning.specs.Tree.{finite, unbounded, Seq, atom, delay, consec, goto, nonconsec, throughout, within, Operand, boolean, operand, nodeAt, unlimited, maxOf, treeAt, nodes}
+use Rattle.meaning.specs.Alternative.{SeqAlt, single, join-hops, hops, consec-finite, over, consec-unbounded, guard-each, expand}
+use Rattle.meaning.specs.Lowerable.{WellFormed, FormedTable, IsBoolean, Walkable}
+use Rattle.meaning.proofs.Taken.{both-hold, second-taken, false-is-not-true}
+use Rattle.meaning.proofs.Ranges.{by-kind, a-formed-tree-is-ranged}
+use Rattle.meaning.proofs.Nodes.{at-atom, at-delay, at-consec, at-goto, at-nonconsec, at-throughout, at-within}
+use Rattle.expand.proofs.Index.{length-with-empty, nth-unbounded, nth-finite-empty}
+use Rattle.expand.proofs.Every.{bounded, some-alternative}
+use Rattle.expand.specs.ByNumber.{alternatives-of, nth, empties, repeats, is-copies, single-count, single-term, OperandInside, Expandable}
+
+-- What a maximum stands for.
+finite-max : {x : ℕ} → (x ≡ unlimited → ⊥) → maxOf x ≡ finite x
+finite-max e = pick-false _ _ (ne-eqb _ _ e)
+
+unbounded-max : {x : ℕ} → x ≡ unlimited → maxOf x ≡ unbounded
+unbounded-max e = pick-true _ _ (eq-eqb _ _ e)
+
+-- The operand of a goto, a nonconsecutive or a [*m:$] is an atom, and its first word is which.
+boolean-operand : (t : List ℕ) (m : ℕ) → FormedTable t → m < nodes t → IsBoolean (operand (treeAt t m))
+    → operand (treeAt t m) ≡ boolean (nodeAt t m .p)
+boolean-operand t m T i B =
+    by-kind (nodeAt t m .kind) (f .known)
+    (λ e. ap operand (at-atom t m e))
+    (λ e. absurd (rw (at-delay t m e (f .delay-left e) (f .delay-right e)) at B))
+    (λ e. absurd (rw (at-consec t m e (f .consec-under e)) at B))
+    (λ e. absurd (rw (at-goto t m e (f .goto-under e)) at B))
+    (λ e. absurd (rw (at-nonconsec t m e (f .nonconsec-under e)) at B))
+    (λ e. absurd (rw (at-throughout t m e (f .throughout-under e)) at B))
+    (λ e. absurd (rw (at-within t m e (f .within-one e) (f .within-two e)) at B))
+  where
+    f : WellFormed m (nodeAt t m)
+    f = T .each m i
+
+-- What the tests of `has_copies` say: a finite [*] that has copies.
+pub record Repetition (v : Node) : Type 0 where
+  pub kind : v .kind ≡ 3
+  pub limited : v .max ≡ unlimited → ⊥
+  pub live : 0 < v .max
+
+pub repetition : (v : Node) {b : Bool} → b ≡ repeats v → b ≡ true → Repetition v
+unfolding repeats
+repetition v p q =
+    let (three, more) = both-hold (eqb (v .kind) 3) (sym p ∙ q) in
+    let (limit, some) = second-taken (eqb (v .max) unlimited) false-is-not-true more in
+    record { kind = eqb-true _ _ three; limited = eqb-false _ _ limit; live = ltb-true _ _ some }
+
+-- .. and where they fail for a finite [*], it is [*0].
+no-repetition : (v : Node) {b : Bool} → b ≡ repeats v → b ≡ false → v .kind ≡ 3 → (v .max ≡ unlimited → ⊥) → v .max ≡ 0
+unfolding repeats
+no-repetition v p q k l =
+    let limit : pick (eqb (v .max) unlimited) false (ltb 0 (v .max)) ≡ ltb 0 (v .max) = pick-false _ _ (ne-eqb _ _ l) in
+    let whole : repeats v ≡ ltb 0 (v .max) = pick-true _ _ (eq-eqb _ _ k) ∙ limit in
+    omega (arith, ltb-false 0 (v .max) (sym whole ∙ sym p ∙ q))
+
+-- 5 of a finite [*] that has copies, and what is known of its operand.
+walkable-copies : (room n : ℕ) (s : Seq) (m x : ℕ) → 0 < x → Walkable room (consec n s m (finite x)) → Walkable room s × (x ≤ 256)
+unfolding Walkable
+walkable-copies room n s m zero h W = absurd (omega arith)
+walkable-copies room n s m (suc x) h W = (W .0, W .1)
+
+module _ {t : List ℕ} {n : ℕ} (E : Expandable t n) where
+  -- From 1 to 256 alternatives.
+  pub some-alternatives : 0 < length (alternatives-of t n)
+  unfolding alternatives-of
+  some-alternatives = some-alternative (E .room) (treeAt t n) (a-formed-tree-is-ranged t (E .formed) n (E .inside)) (E .walkable)
+
+  pub few-alternatives : length (alternatives-of t n) ≤ 256
+  unfolding alternatives-of
+  few-alternatives = bounded (treeAt t n) (E .walkable) .few
+
+  module _ {v : Node} (w : v ≡ nodeAt t n) where
+    -- 1 and 3, of the words as they were read and as they stand in the table.
+    pub well-formed : WellFormed n v
+    well-formed = rw w (E .formed .each n (E .inside))
+
+    abbrev f : WellFormed n (nodeAt t n)
+    f = E .formed .each n (E .inside)
+
+    -- A lower node that the walk let pass too.
+    lower : (m : ℕ) → m < n → Walkable (E .room) (treeAt t m) → Expandable t m
+    lower m l W = record { formed = E .formed; inside = omega (arith, E .inside); room = E .room; walkable = W }
+
+    -- ---- delay
+
+    is-delay : v .kind ≡ 2 → treeAt t n ≡ delay n (treeAt t (v .p)) (treeAt t (v .q)) (v .min) (maxOf (v .max))
+    is-delay k = let e = rw w at k in at-delay t n e (f .delay-left e) (f .delay-right e) ∙ rw w refl
+
+    delay-walkable : v .kind ≡ 2 → Walkable (E .room) (treeAt t (v .p)) × Walkable (E .room) (treeAt t (v .q))
+    unfolding Walkable
+    delay-walkable k = let W = rw (is-delay k) at (E .walkable) in (W .0, W .1)
+
+    pub left-expandable : v .kind ≡ 2 → Expandable t (v .p)
+    left-expandable k = lower (v .p) (well-formed .delay-left k) (delay-walkable k .0)
+
+    pub right-expandable : v .kind ≡ 2 → Expandable t (v .q)
+    right-expandable k = lower (v .q) (well-formed .delay-right k) (delay-walkable k .1)
+
+    pub delay-alternatives : v .kind ≡ 2
+        → alternatives-of t n ≡ join-hops (hops (v .min) (maxOf (v .max))) (alternatives-of t (v .p)) (alternatives-of t (v .q))
+    unfolding alternatives-of
+    delay-alternatives k = rw (is-delay k) refl
+
+    -- ---- throughout
+
+    is-throughout : v .kind ≡ 6 → treeAt t n ≡ throughout n (v .p) (treeAt t (v .q))
+    is-throughout k = let e = rw w at k in at-throughout t n e (f .throughout-under e) ∙ rw w refl
+
+    pub guarded-expandable : v .kind ≡ 6 → Expandable t (v .q)
+    unfolding Walkable
+    guarded-expandable k = lower (v .q) (well-formed .throughout-under k) (let W = rw (is-throughout k) at (E .walkable) in W .0)
+
+    pub throughout-alternatives : v .kind ≡ 6 → alternatives-of t n ≡ guard-each (v .p) (alternatives-of t (v .q))
+    unfolding alternatives-of
+    throughout-alternatives k = rw (is-throughout k) refl
+
+    -- ---- consecutive
+
+    is-consec : v .kind ≡ 3 → treeAt t n ≡ consec n (treeAt t (v .p)) (v .min) (maxOf (v .max))
+    is-consec k = let e = rw w at k in at-consec t n e (f .consec-under e) ∙ rw w refl
+
+    is-finite : v .kind ≡ 3 → (v .max ≡ unlimited → ⊥) → treeAt t n ≡ consec n (treeAt t (v .p)) (v .min) (finite (v .max))
+    is-finite k l = is-consec k ∙ ap (consec n (treeAt t (v .p)) (v .min)) (finite-max l)
+
+    is-unbounded : v .kind ≡ 3 → v .max ≡ unlimited → treeAt t n ≡ consec n (treeAt t (v .p)) (v .min) unbounded
+    is-unbounded k u = is-consec k ∙ ap (consec n (treeAt t (v .p)) (v .min)) (unbounded-max u)
+
+    finite-alternatives : v .kind ≡ 3 → (v .max ≡ unlimited → ⊥)
+        → alternatives-of t n ≡ consec-finite (alternatives-of t (v .p)) (v .min) (v .max)
+    unfolding alternatives-of
+    finite-alternatives k l = rw (is-finite k l) refl
+
+    module _ (R : Repetition v) where
+      -- What 5 and the walk say of a [*] that has copies, and its alternatives.
+      copies-walkable : Walkable (E .room) (treeAt t (v .p)) × (v .max ≤ 256)
+      copies-walkable =
+          walkable-copies (E .room) n (treeAt t (v .p)) (v .min) (v .max) (R .live) (rw (is-finite (R .kind) (R .limited)) at (E .walkable))
+
+      pub copied-expandable : Expandable t (v .p)
+      copied-expandable = lower (v .p) (well-formed .consec-under (R .kind)) (copies-walkable .0)
+
+      pub few-copies : v .max ≤ 256
+      few-copies = copies-walkable .1
+
+      pub copies-in-order : v .min ≤ v .max
+      copies-in-order = well-formed .consec-range (R .kind)
+
+      pub repeated-alternatives : alternatives-of t n ≡ consec-finite (alternatives-of t (v .p)) (v .min) (v .max)
+      repeated-alternatives = finite-alternatives (R .kind) (R .limited)
+
+    -- ---- the kinds over a Boolean
+
+    -- What a term over the operand's Boolean gives.
+    over-operand : (g : ℕ → List SeqAlt) → v .p < n → IsBoolean (operand (treeAt t (v .p)))
+        → over (operand (treeAt t (v .p))) g ≡ g (nodeAt t (v .p) .p)
+    over-operand g l B = ap (λ (x : Operand). over x g) (boolean-operand t (v .p) (E .formed) (omega (arith, E .inside)) B)
+
+    unbounded-alternatives : v .kind ≡ 3 → v .max ≡ unlimited → alternatives-of t n ≡ consec-unbounded (v .min) (nodeAt t (v .p) .p)
+    unfolding alternatives-of Walkable
+    unbounded-alternatives k u =
+        ap expand (is-unbounded k u)
+        ∙ over-operand (consec-unbounded (v .min)) (well-formed .consec-under k) (let W = rw (is-unbounded k u) at (E .walkable) in W .1)
+
+    is-goto : v .kind ≡ 4 → treeAt t n ≡ goto n (treeAt t (v .p)) (v .min)
+    is-goto k = let e = rw w at k in at-goto t n e (f .goto-under e) ∙ rw w refl
+
+    goto-alternatives : v .kind ≡ 4 → alternatives-of t n ≡ single (Goto (nodeAt t (v .p) .p) (v .min)) ∷ []
+    unfolding alternatives-of Walkable
+    goto-alternatives k =
+        ap expand (is-goto k)
+        ∙ over-operand (λ b. single (Goto b (v .min)) ∷ []) (well-formed .goto-under k) (let W = rw (is-goto k) at (E .walkable) in W .1)
+
+    is-nonconsec : v .kind ≡ 5 → treeAt t n ≡ nonconsec n (treeAt t (v .p)) (v .min)
+    is-nonconsec k = let e = rw w at k in at-nonconsec t n e (f .nonconsec-under e) ∙ rw w refl
+
+    nonconsec-alternatives : v .kind ≡ 5 → alternatives-of t n ≡ single (Nonconsec (nodeAt t (v .p) .p) (v .min)) ∷ []
+    unfolding alternatives-of Walkable
+    nonconsec-alternatives k =
+        ap expand (is-nonconsec k)
+        ∙ over-operand (λ b. single (Nonconsec b (v .min)) ∷ []) (well-formed .nonconsec-under k) (let W = rw (is-nonconsec k) at (E .walkable) in W .1)
+
+    atom-alternatives : v .kind ≡ 1 → alternatives-of t n ≡ single (BoolTerm (v .p)) ∷ []
+    unfolding alternatives-of
+    atom-alternatives k = ap expand (at-atom t n (rw w at k)) ∙ rw w refl
+
+    -- 8: a within is the root's alone.
+    no-within : v .kind ≡ 7 → ⊥
+    unfolding Walkable
+    no-within k =
+        let e = rw w at k in
+        let W = rw (at-within t n e (f .within-one e) (f .within-two e)) at (E .walkable) in W
+
+    -- ---- the alternatives that are one term
+
+    module _ (d : v .kind ≡ 2 → ⊥) (g : v .kind ≡ 6 → ⊥) where
+      -- Four kinds are left.
+      by-single-kind : {P : Type 0} → (v .kind ≡ 1 → P) → (v .kind ≡ 3 → P) → (v .kind ≡ 4 → P) → (v .kind ≡ 5 → P) → P
+      by-single-kind p₁ p₃ p₄ p₅ =
+          by-kind (v .kind) (well-formed .known) p₁ (λ k. absurd (d k)) p₃ p₄ p₅ (λ k. absurd (g k)) (λ k. absurd (no-within k))
+
+      -- Each has one alternative but [*m:$], which may have an Empty in front of its run.
+      pub singles-counted : {b : Bool} → b ≡ repeats v → b ≡ false → single-count v ≡ length (alternatives-of t n)
+      unfolding single-count pick
+      singles-counted r x =
+          by-single-kind
+          (λ k. rw (k, atom-alternatives k) refl)
+          (λ k. elim (ℕ-discrete (v .max) unlimited) [
+            | yes u ↦ rw (k, u, unbounded-alternatives k u) (sym (length-with-empty (v .min) _))
+            | no l ↦ (let z : v .max ≡ 0 = no-repetition v r x k l in rw (k, finite-alternatives k l, z) refl)
+          ])
+          (λ k. rw (k, goto-alternatives k) refl)
+          (λ k. rw (k, nonconsec-alternatives k) refl)
+
+      -- A finite [*] has nothing but copies behind its Empty.
+      before-copies : {b : Bool} (i : ℕ) → i < length (alternatives-of t n) → b ≡ is-copies v i → b ≡ false → v .kind ≡ 3
+          → (v .max ≡ unlimited → ⊥) → i < empties (v .min)
+      unfolding is-copies empties pick
+      before-copies {b} i h c x k l = go (repeats v) refl
+        where
+          go : (r : Bool) → repeats v ≡ r → i < empties (v .min)
+          go true e = let q : leb (empties (v .min)) i ≡ false = sym (rw e at c) ∙ x in leb-false _ _ q
+          go false e =
+              let z : v .max ≡ 0 = no-repetition v (sym e) refl k l in
+              let m : v .min ≡ 0 = omega (arith, well-formed .consec-range k) in
+              rw m (rw (finite-alternatives k l, z) at h)
+
+      -- Alternative i, where it is not made of copies, is the one term that its node and number say.
+      pub single-alternative : {b : Bool} (i : ℕ) → i < length (alternatives-of t n) → b ≡ is-copies v i → b ≡ false
+          → nth (alternatives-of t n) i ≡ single (single-term t v i)
+      unfolding single-term pick nth
+      single-alternative {b} i h c x =
+          by-single-kind
+          (λ k. rw (k, atom-alternatives k, only (atom-alternatives k)) refl)
+          (λ k. elim (ℕ-discrete (v .max) unlimited) [
+            | yes u ↦ (
+                let e = unbounded-alternatives k u in
+                rw (k, e) (nth-unbounded (v .min) (nodeAt t (v .p) .p) i (rw e at h)))
+            | no l ↦ (
+                let e = before-copies i h c x k l in
+                rw (k, lt-ltb _ _ e, finite-alternatives k l)
+                (nth-finite-empty (alternatives-of t (v .p)) (v .min) (v .max) i (well-formed .consec-range k) e))
+          ])
+          (λ k. rw (k, goto-alternatives k, only (goto-alternatives k)) refl)
+          (λ k. rw (k, nonconsec-alternatives k, only (nonconsec-alternatives k)) refl)
+        where
+          only : {y : SeqAlt} → alternatives-of t n ≡ y ∷ [] → i ≡ 0
+          only e = omega (arith, rw e at h)
+
+      -- The operand of what is one term can be read, if there is one.
+      pub operand-inside : OperandInside t v
+      operand-inside = record {
+        inside = λ x. omega (arith, under x, E .inside, E .formed .whole);
+        few = λ x. omega (arith, under x, E .inside, E .formed .few);
+      }
+        where
+          under : (v .kind ≡ 1 → ⊥) → v .p < n
+          under x =
+              by-single-kind
+              (λ k. absurd (x k))
+              (λ k. well-formed .consec-under k)
+              (λ k. well-formed .goto-under k)
+              (λ k. well-formed .nonconsec-under k)
+
+-- `single_term`, which has the operand's words under the name b and the Empties under the name e.
+module _ (t : List ℕ) (v : Node) where
+  pub operand-read-inside : OperandInside t v → (v .kind ≡ 1 → ⊥) → v .p * 5 + 5 ≤ length t
+  operand-read-inside O x = O .inside x
+
+  pub operand-read-few : OperandInside t v → (v .kind ≡ 1 → ⊥) → v .p < 4096
+  operand-read-few O x = O .few x
+
+  module _ {b : Node} (i : ℕ) (x : v .kind ≡ 1 → ⊥) (r : b ≡ nodeAt t (v .p)) where
+    pub goto-term : v .kind ≡ 4 → Goto (b .p) (v .min) ≡ single-term t v i
+    unfolding single-term pick
+    goto-term k = rw (k, r) refl
+
+    pub nonconsec-term : v .kind ≡ 5 → Nonconsec (b .p) (v .min) ≡ single-term t v i
+    unfolding single-term pick
+    nonconsec-term k = rw (k, r) refl
+
+    module _ {e : ℕ} (y : v .kind ≡ 4 → ⊥) (z : v .kind ≡ 5 → ⊥) (q : e ≡ empties (v .min)) where
+      pub empty-term : i < e → Empty ≡ single-term t v i
+      unfolding single-term pick
+      empty-term l = rw (ne-eqb _ _ x, ne-eqb _ _ y, ne-eqb _ _ z, ← q, lt-ltb _ _ l) refl
+
+      pub run-term : {m : ℕ} → e ≤ i → m ≡ v .min - 1 → ConsecAtLeast (b .p) (m + 1) ≡ single-term t v i
+      unfolding single-term pick
+      run-term l s = rw (ne-eqb _ _ x, ne-eqb _ _ y, ne-eqb _ _ z, ← q, le-ltb _ _ l, r, s) refl

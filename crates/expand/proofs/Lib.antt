@@ -1,0 +1,9 @@
+pub mod Arithmetic
+pub mod Index
+pub mod Every
+pub mod ByKind
+pub mod Counted
+pub mod Numbers
+pub mod Written
+pub mod Room
+pub mod Example

@@ -1,0 +1,282 @@
+-- Which alternatives of its operands an alternative is made of, from its number alone, and that they are numbered too: what
+-- a recursion on the node number goes by, whatever it writes of the alternative.
+use mathlib.Core.Path.{_≡_, refl, sym, ap, _∙_, subst}
+use mathlib.Core.Bool.{Bool, true, false}
+use mathlib.Core.List.{List}
+use Prim.Native.Nat.{ℕ, suc, _+_, _*_, _-_, _<_, _≤_, _/_, _%_}
+use native.Mathlib.Omega.{arith}
+use native.Mathlib.Nat.{mod-lt}
+use lib.Dec.{eqb}
+use lib.ListN.{length, getD}
+use borrow.Author.Tests.{leb-true}
+use Rattle.words.specs.Choice.{pick}
+use Rattle.meaning.specs.declared.Node.{Node}
+use Rattle.meaning.specs.declared.SeqHop.{SeqHop}
+use Rattle.meaning.specs.declared.SeqHop.the-variants.{Fixed, AtLeast}
+use Rattle.meaning.specs.Tree.{finite, unbounded, nodeAt, unlimited, maxOf}
+use Rattle.meaning.specs.Expression.{a·, any}
+use Rattle.meaning.specs.Alternative.{guard, and-opt, SeqAlt, alternative, joined, hops, copies, copies-from}
+use Rattle.meaning.proofs.Counting.{length-hops}
+use Rattle.meaning.proofs.Taken.{both-hold}
+use Rattle.expand.specs.declared.Parts.{Parts}
+use Rattle.expand.specs.declared.Block.{Block}
+use Rattle.expand.specs.ByNumber.{alternatives-of, copies-of, nth, hops-between, hop-at, parts-of, copies-count, copies-from-count, block-of, empties, repeats, is-copies, delay-parts, copies-block, Expandable, Numbered, NumberedCopies}
+use Rattle.expand.proofs.Index.{nth-delay, nth-fixed-from, nth-guarded, digits-below, Digits, nth-copies, copies-index, InBlock, nth-block, length-copies-from, finite-blocks, nth-past-empty}
+use Rattle.expand.proofs.ByKind.{Repetition, repetition, some-alternatives, few-alternatives, well-formed, left-expandable, right-expandable, delay-alternatives, guarded-expandable, throughout-alternatives, copied-expandable, few-copies, copies-in-order, repeated-alternatives}
+use Rattle.expand.proofs.Counted.{length-hops-between, delay-count, throughout-count, copied-some, copied-few, first-few, repeated-count}
+
+-- The k-th hop of a delay.
+nth-hop : (min max k : ℕ) → k < length (hops min (maxOf max)) → getD (hops min (maxOf max)) k (Fixed 0) ≡ hop-at min max k
+unfolding hop-at pick
+nth-hop min max k h = go (eqb max unlimited) h
+  where
+    go : (b : Bool) → k < length (hops min (pick b unbounded (finite max)))
+        → getD (hops min (pick b unbounded (finite max))) k (Fixed 0) ≡ pick b (AtLeast min) (Fixed (min + k))
+    go true p = let e : k ≡ 0 = omega arith in rw e refl
+    go false p = nth-fixed-from min (suc max - min) k (omega (arith, length-hops min (finite max)))
+
+-- .. and that it is a number of 32 bits.
+hop-fits : (min max k : ℕ) → min < unlimited → max < 4294967296 → k < hops-between min max → min + k < 4294967296
+unfolding hops-between pick
+hop-fits min max k p q h = go (eqb max unlimited) h
+  where
+    go : (b : Bool) → k < pick b 1 (max + 1 - min) → min + k < 4294967296
+    go true h = omega arith
+    go false h = omega arith
+
+module _ {t : List ℕ} {n i : ℕ} {v : Node} (N : Numbered t n i) (w : v ≡ nodeAt t n) where
+  E : Expandable t n
+  E = N .node
+
+  -- A number is below the node's count.
+  pub few-numbers : i ≤ 256
+  few-numbers = omega (arith, N .index, few-alternatives E)
+
+  -- ---- delay
+
+  -- `delay_parts`, which has the operands' counts under the names a and b.
+  module _ {a b : ℕ} (k : v .kind ≡ 2) (p : a ≡ length (alternatives-of t (v .p))) (q : b ≡ length (alternatives-of t (v .q))) where
+    pub left-some : 0 < a
+    left-some = rw p (some-alternatives (left-expandable E w k))
+
+    pub right-some : 0 < b
+    right-some = rw q (some-alternatives (right-expandable E w k))
+
+    -- The three digits of the number are below their bases.
+    bounds : Digits i (hops-between (v .min) (v .max)) a b
+    bounds = digits-below i (hops-between (v .min) (v .max)) a b left-some right-some (rw (p, q, ← delay-count E w k) (N .index))
+
+    pub hop-small : v .max < 4294967296 → v .min + i / b / a < 4294967296
+    hop-small z = hop-fits (v .min) (v .max) (i / b / a) (well-formed E w .delay-min k) z (bounds .hop)
+
+    pub parts-found : {s : Parts} → s ≡ parts-of (v .min) (v .max) i a b → s ≡ delay-parts t n i
+    unfolding delay-parts
+    parts-found c = c ∙ rw (p, q, w) refl
+
+  -- The measure falls: 1024 for each node, which is more than the copies that can be left of one.
+  pub left-below : {u : ℕ} → n * 1024 ≡ u → v .kind ≡ 2 → v .p * 1024 < u
+  left-below e k = omega (arith, well-formed E w .delay-left k)
+
+  pub right-below : {u : ℕ} → n * 1024 ≡ u → v .kind ≡ 2 → v .q * 1024 < u
+  right-below e k = omega (arith, well-formed E w .delay-right k)
+
+  -- Both operands' alternatives are numbered, and the delay's joins them.
+  module _ {s : Parts} (k : v .kind ≡ 2) (c : s ≡ delay-parts t n i) where
+    abbrev ls : List SeqAlt
+    ls = alternatives-of t (v .p)
+
+    abbrev rs : List SeqAlt
+    rs = alternatives-of t (v .q)
+
+    apart : s ≡ parts-of (v .min) (v .max) i (length ls) (length rs)
+    unfolding delay-parts
+    apart = c ∙ rw w refl
+
+    pub left-numbered : Numbered t (v .p) (s .left)
+    unfolding parts-of
+    left-numbered = record { node = left-expandable E w k; index = rw apart (bounds k refl refl .left) }
+
+    pub right-numbered : Numbered t (v .q) (s .right)
+    unfolding parts-of
+    right-numbered = record { node = right-expandable E w k; index = rw apart (bounds k refl refl .right) }
+
+    pub nth-of-delay : nth (alternatives-of t n) i
+        ≡ joined (s .hop) (nth (alternatives-of t (v .p)) (s .left)) (nth (alternatives-of t (v .q)) (s .right))
+    unfolding parts-of
+    nth-of-delay =
+        let hs = hops (v .min) (maxOf (v .max)) in
+        let h : i / length rs / length ls < length hs = rw (length-hops-between (v .min) (v .max)) (bounds k refl refl .hop) in
+        rw apart
+        (ap (λ (z : List SeqAlt). nth z i) (delay-alternatives E w k)
+        ∙ nth-delay hs ls rs i (left-some k refl refl) (right-some k refl refl) (rw (delay-alternatives E w k) at (N .index))
+        ∙ ap (λ (z : SeqHop). joined z (nth ls (i / length rs % length ls)) (nth rs (i % length rs))) (nth-hop (v .min) (v .max) _ h))
+
+  -- ---- throughout: the operand's alternative of the same number, with one guard more
+
+  pub guarded-below : {u : ℕ} → n * 1024 ≡ u → v .kind ≡ 6 → v .q * 1024 < u
+  guarded-below e k = omega (arith, well-formed E w .throughout-under k)
+
+  pub guarded-numbered : v .kind ≡ 6 → Numbered t (v .q) i
+  guarded-numbered k = record { node = guarded-expandable E w k; index = rw (throughout-count E w k) at (N .index) }
+
+  pub nth-of-throughout : v .kind ≡ 6
+      → let y = nth (alternatives-of t (v .q)) i in nth (alternatives-of t n) i ≡ alternative (y .steps) (and-opt (y .guard) (guard (any (a· (v .p)))))
+  nth-of-throughout k =
+      ap (λ (z : List SeqAlt). nth z i) (throughout-alternatives E w k)
+      ∙ nth-guarded (v .p) (alternatives-of t (v .q)) i (guarded-numbered k .index)
+
+-- What the tests of `made_of_copies` say.
+pub record Copied (v : Node) (i : ℕ) : Type 0 where
+  pub repetition : Repetition v
+  pub past : empties (v .min) ≤ i
+
+module _ (v : Node) (i : ℕ) {b : Bool} (e : b ≡ is-copies v i) (y : b ≡ true) where
+  pub copied : Copied v i
+  unfolding is-copies
+  copied =
+      let (r, x) = both-hold (repeats v) (sym e ∙ y) in
+      record { repetition = repetition v refl r; past = leb-true (empties (v .min)) i x }
+
+-- A test of the node's words, and of the same words as they were read.
+module _ (t : List ℕ) (n i : ℕ) {v : Node} (w : v ≡ nodeAt t n) where
+  pub read-kind : nodeAt t n .kind ≡ 2 → v .kind ≡ 2
+  read-kind k = rw w k
+
+  pub kind-read : v .kind ≡ 2 → nodeAt t n .kind ≡ 2
+  kind-read k = rw (← w) k
+
+  pub read-copied : is-copies (nodeAt t n) i ≡ true → Copied v i
+  read-copied y = rw w (copied (nodeAt t n) i refl y)
+
+  pub copies-read : {b : Bool} → b ≡ is-copies v i → b ≡ true → is-copies (nodeAt t n) i ≡ true
+  copies-read e y = rw (← w) (sym e ∙ y)
+
+-- ---- a finite [*], past its Empty
+
+module _ {t : List ℕ} {n i : ℕ} {v : Node} (N : Numbered t n i) (w : v ≡ nodeAt t n) (R : Copied v i) where
+  abbrev E′ : Expandable t n
+  E′ = N .node
+
+  abbrev Q : Repetition v
+  Q = R .repetition
+
+  -- What `copies_block` asks of the operand, whose count it has under the name a.
+  pub base-expandable : Expandable t (v .p)
+  base-expandable = copied-expandable E′ w Q
+
+  pub base-order : v .min ≤ v .max
+  base-order = copies-in-order E′ w Q
+
+  pub base-live : 0 < v .max
+  base-live = Q .live
+
+  pub base-few-copies : v .max ≤ 256
+  base-few-copies = few-copies E′ w Q
+
+  pub past-empty : empties (v .min) ≤ i
+  past-empty = R .past
+
+  module _ {a : ℕ} (p : a ≡ length (alternatives-of t (v .p))) where
+    pub base-some : 0 < a
+    base-some = copied-some E′ w Q p
+
+    pub base-few : a ≤ 256
+    base-few = copied-few E′ w Q p
+
+    pub base-first-few : copies-count a (v .min - 1) ≤ 256
+    base-first-few = first-few E′ w Q p
+
+    pub block-found : {b : Block} → b ≡ block-of a (v .min - 1) (v .max - (v .min - 1) - 1) (i - empties (v .min))
+        → b ≡ copies-block t n i
+    unfolding copies-block
+    block-found g = g ∙ rw (p, w) refl
+
+  -- The number stands in the block that was found, and is a number there.
+  module _ {b : Block} (g : b ≡ copies-block t n i) where
+    abbrev base : List SeqAlt
+    base = alternatives-of t (v .p)
+
+    abbrev more : ℕ
+    more = v .max - (v .min - 1) - 1
+
+    abbrev j : ℕ
+    j = i - empties (v .min)
+
+    blocks : v .max - (v .min - 1) ≡ suc more
+    blocks = omega (arith, base-live, base-order)
+
+    in-blocks : nth (alternatives-of t n) i ≡ nth (copies-from base (v .min - 1) (suc more)) j
+    in-blocks =
+        ap (λ (z : List SeqAlt). nth z i) (repeated-alternatives E′ w Q ∙ finite-blocks base (v .min) (v .max) (Q .live))
+        ∙ nth-past-empty (v .min) _ i (R .past)
+        ∙ ap (λ (z : ℕ). nth (copies-from base (v .min - 1) z) j) blocks
+
+    found : InBlock base (nth (alternatives-of t n) i) 256 b
+    unfolding copies-block
+    found =
+        let l : j < copies-from-count (length base) (v .min - 1) (v .max - (v .min - 1)) =
+        omega (arith, N .index, repeated-count E′ w Q refl, R .past) in
+        let there = nth-block base (v .min - 1) more j (rw (length-copies-from base (v .min - 1) (suc more), ← blocks) l) in
+        let few : block-of (length base) (v .min - 1) more j .later ≤ 256 = omega (arith, there .few, base-few-copies, base-order, base-live) in
+        rw (g, ← w) (record { same = in-blocks ∙ there .same; index = there .index; few = few })
+
+    pub block-below : {u : ℕ} → n * 1024 ≡ u → v .p * 1024 + (b .later + 1) < u
+    block-below e = omega (arith, well-formed E′ w .consec-under (Q .kind), found .few)
+
+    pub block-numbered : NumberedCopies t (v .p) (b .later) (b .index)
+    unfolding copies-of
+    block-numbered = record { node = base-expandable; few = found .few; index = found .index }
+
+    pub nth-of-block : nth (alternatives-of t n) i ≡ nth (copies-of (alternatives-of t (v .p)) (b .later)) (b .index)
+    unfolding copies-of
+    nth-of-block = found .same
+
+-- ---- k + 1 copies: one, or the earlier ones and the last
+
+module _ {t : List ℕ} {n k i : ℕ} (C : NumberedCopies t n k i) where
+  pub only-below : {u : ℕ} → n * 1024 + (k + 1) ≡ u → n * 1024 < u
+  only-below e = omega arith
+
+  pub only-numbered : k ≡ 0 → Numbered t n i
+  unfolding copies-of
+  only-numbered e = record { node = C .node; index = rw e at (C .index) }
+
+  pub nth-of-only : k ≡ 0 → nth (copies-of (alternatives-of t n) k) i ≡ nth (alternatives-of t n) i
+  unfolding copies-of
+  nth-of-only e = rw e refl
+
+  pub copy-expandable : Expandable t n
+  copy-expandable = C .node
+
+  pub copy-some : {a : ℕ} → a ≡ length (alternatives-of t n) → 0 < a
+  copy-some e = rw e (some-alternatives (C .node))
+
+  module _ {a : ℕ} (z : k ≡ 0 → ⊥) (e : a ≡ length (alternatives-of t n)) where
+    one-more : k ≡ suc (k - 1)
+    one-more = omega arith
+
+    pub earlier-below : {u : ℕ} → n * 1024 + (k + 1) ≡ u → n * 1024 + (k - 1 + 1) < u
+    earlier-below x = omega arith
+
+    numbered : i < length (copies (alternatives-of t n) (suc (k - 1)))
+    unfolding copies-of
+    numbered = subst (λ (m : ℕ). i < length (copies (alternatives-of t n) m)) one-more (C .index)
+
+    pub earlier-numbered : NumberedCopies t n (k - 1) (i / a)
+    unfolding copies-of
+    earlier-numbered = record {
+      node = C .node;
+      few = omega (arith, C .few);
+      index = rw e (copies-index (alternatives-of t n) (k - 1) i (copy-some refl) numbered);
+    }
+
+    pub last-numbered : Numbered t n (i % a)
+    last-numbered = record { node = C .node; index = rw (← e) (mod-lt i (copy-some e)) }
+
+    pub nth-of-copies : nth (copies-of (alternatives-of t n) k) i
+        ≡ joined (Fixed 1) (nth (copies-of (alternatives-of t n) (k - 1)) (i / a)) (nth (alternatives-of t n) (i % a))
+    unfolding copies-of
+    nth-of-copies =
+        ap (λ (m : ℕ). nth (copies (alternatives-of t n) m) i) one-more
+        ∙ nth-copies (alternatives-of t n) (k - 1) i (copy-some refl) numbered
+        ∙ rw e refl

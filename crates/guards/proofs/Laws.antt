@@ -1,0 +1,296 @@
+-- The words of a guard, as `guard_text`, `repeated_guard` and `guard_words` put them: of two guards, one after the other, and
+-- an `and` where both wrote something.
+use mathlib.Core.Path.{_≡_, refl, sym, ap, _∙_}
+use mathlib.Core.Bool.{Bool, false}
+use mathlib.Core.List.{List, [], _∷_, _++_, append-nil}
+use Prim.Native.Nat.{ℕ, _+_, _-_, _<_, _≤_, _/_, _%_}
+use native.Mathlib.Omega.{arith}
+use lib.ListN.{length, length-append}
+use borrow.Author.Tests.{eq-eqb, ne-eqb}
+use Rattle.words.specs.Choice.{pick-true, pick-false}
+use Rattle.words.specs.Written.{Wrote}
+use Rattle.words.proofs.Laws.{begin, go, last, done, same-words}
+use Rattle.meaning.specs.declared.Node.{Node}
+use Rattle.meaning.specs.Tree.{nodeAt}
+use Rattle.meaning.specs.Expression.{Expr, a·, r·, zero·, one·, any, not·, and·, or·}
+use Rattle.meaning.specs.Listing.{word, expression-words}
+use Rattle.meaning.specs.Alternative.{Guard, unguarded, guard, and-opt, SeqAlt}
+use Rattle.expand.specs.declared.Parts.{Parts}
+use Rattle.expand.specs.declared.Block.{Block}
+use Rattle.expand.specs.ByNumber.{alternatives-of, copies-of, nth, is-copies, delay-parts, copies-block, Numbered, NumberedCopies}
+use Rattle.expand.proofs.ByKind.{well-formed, single-alternative}
+use Rattle.expand.proofs.Numbers.{Copied, nth-of-delay, nth-of-throughout, nth-of-block, nth-of-only, nth-of-copies}
+use Rattle.expand.proofs.Written.{still-long}
+use Rattle.guards.specs.GuardText.{guardText, closedGuard, guard-text, closed-guard, joining}
+
+-- An expression is not without words, so that a guard which wrote nothing is none.
+some-words : (x : Expr) → 0 < length (expression-words x)
+some-words (a· a) = omega arith
+some-words (r· r) = omega arith
+some-words zero· = omega arith
+some-words one· = omega arith
+some-words (any e) = omega (arith, length-append (expression-words e) (word 5 0 ∷ []))
+some-words (not· e) = omega (arith, length-append (expression-words e) (word 6 0 ∷ []))
+some-words (and· x y) = omega (arith, some-words x, length-append (expression-words x) (expression-words y ++ (word 7 0 ∷ [])))
+some-words (or· x y) = omega (arith, some-words x, length-append (expression-words x) (expression-words y ++ (word 8 0 ∷ [])))
+
+-- ---- `join_guards`
+
+-- What is put: nothing where one of the two wrote nothing, else `and`.
+join-none : {from middle : ℕ} (end : ℕ) → from ≡ middle → joining from middle end ≡ []
+unfolding joining
+join-none end e = pick-true _ _ (eq-eqb _ _ e)
+
+join-first : {from middle end : ℕ} → (from ≡ middle → ⊥) → middle ≡ end → joining from middle end ≡ []
+unfolding joining
+join-first e f = pick-false _ _ (ne-eqb _ _ e) ∙ pick-true _ _ (eq-eqb _ _ f)
+
+join-both : {from middle end : ℕ} → (from ≡ middle → ⊥) → (middle ≡ end → ⊥) → joining from middle end ≡ word 7 0 ∷ []
+unfolding joining
+join-both e f = pick-false _ _ (ne-eqb _ _ e) ∙ pick-false _ _ (ne-eqb _ _ f)
+
+nothing-written : (o : List ℕ) (at : ℕ) → Wrote o o at at []
+nothing-written o at = done (begin o at [])
+
+-- .. as the code puts it.
+pub none-joined : (o : List ℕ) {from middle : ℕ} (end : ℕ) → from ≡ middle → Wrote o o end end (joining from middle end)
+none-joined o end e = same-words (sym (join-none end e)) (nothing-written o end)
+
+pub first-joined : (o : List ℕ) {from middle end : ℕ} → (from ≡ middle → ⊥) → middle ≡ end
+    → Wrote o o end end (joining from middle end)
+first-joined o {end = end} e f = same-words (sym (join-first e f)) (nothing-written o end)
+
+module _ {from middle end : ℕ} (e : from ≡ middle → ⊥) (f : middle ≡ end → ⊥) where
+  pub both-room : (o : List ℕ) → end + length (joining from middle end) ≤ length o → end < length o
+  both-room o room = let r : end + 1 ≤ length o = rw (join-both e f) at room in omega arith
+
+  pub both-joined : {o o₁ : List ℕ} {next : ℕ} → Wrote o o₁ end next (word 7 0 ∷ []) → Wrote o o₁ end next (joining from middle end)
+  both-joined x = same-words (sym (join-both e f)) x
+
+-- ---- two guards
+
+-- `and_opt` in words, wherever they are put.
+text-of-two : (g h : Guard) (from middle end : ℕ) → middle ≡ from + length (guardText g) → end ≡ middle + length (guardText h)
+    → guardText (and-opt g h) ≡ guardText g ++ (guardText h ++ joining from middle end)
+text-of-two unguarded h from middle end p q =
+    sym (ap (λ (l : List ℕ). guardText h ++ l) (join-none end (omega arith)) ∙ append-nil (guardText h))
+text-of-two (guard x) unguarded from middle end p q =
+    sym (ap (λ (l : List ℕ). expression-words x ++ l) (join-first (λ e. omega (arith, some-words x)) (omega arith)) ∙ append-nil (expression-words x))
+text-of-two (guard x) (guard y) from middle end p q =
+    ap (λ (l : List ℕ). expression-words x ++ (expression-words y ++ l)) (sym (join-both (λ e. omega (arith, some-words x)) (λ e. omega (arith, some-words y))))
+
+module _ (y g h : Guard) (e : y ≡ and-opt g h) (o : List ℕ) (at : ℕ) (room : at + length (guardText y) ≤ length o) where
+  joined-room : at + length (guardText (and-opt g h)) ≤ length o
+  joined-room = rw e at room
+
+  first-guard-room : at + length (guardText g) ≤ length o
+  first-guard-room =
+      let m = at + length (guardText g) in
+      let z = m + length (guardText h) in
+      let l = ap length (text-of-two g h at m z refl refl) ∙ length-append (guardText g) (guardText h ++ joining at m z) in
+      omega (arith, joined-room)
+
+  module _ {o₁ : List ℕ} {middle : ℕ} (x : Wrote o o₁ at middle (guardText g)) where
+    rooms : (end : ℕ) → end ≡ middle + length (guardText h)
+        → at + (length (guardText g) + (length (guardText h) + length (joining at middle end))) ≤ length o
+    rooms end q =
+        rw (← length-append (guardText h), ← length-append (guardText g), ← text-of-two g h at middle end (x .ends) q) joined-room
+
+    second-guard-room : middle + length (guardText h) ≤ length o₁
+    second-guard-room = omega (arith, rooms (middle + length (guardText h)) refl, x .ends, still-long x)
+
+    module _ {o₂ : List ℕ} {end : ℕ} (x₂ : Wrote o₁ o₂ middle end (guardText h)) where
+      join-room : end + length (joining at middle end) ≤ length o₂
+      join-room = omega (arith, rooms end (x₂ .ends), x .ends, x₂ .ends, still-long x, still-long x₂)
+
+      guards-joined : {o₃ : List ℕ} {next : ℕ} → Wrote o₂ o₃ end next (joining at middle end) → Wrote o o₃ at next (guardText y)
+      guards-joined x₃ =
+          same-words (sym (ap guardText e ∙ text-of-two g h at middle end (x .ends) (x₂ .ends)))
+          (last (go (guardText h) (joining at middle end) (go (guardText g) (guardText h ++ joining at middle end) (begin o at _) x) x₂) x₃)
+
+-- ---- as the code meets them
+
+-- The words that `guard_text` and `repeated_guard` put.
+abbrev node-guard : List ℕ → ℕ → ℕ → List ℕ
+node-guard t n i = guard-text (alternatives-of t n) i
+
+abbrev copies-guard : List ℕ → ℕ → ℕ → ℕ → List ℕ
+copies-guard t n k i = guard-text (copies-of (alternatives-of t n) k) i
+
+module _ {t : List ℕ} {n i : ℕ} {v : Node} (o : List ℕ) (at : ℕ) (N : Numbered t n i) (room : at + length (node-guard t n i) ≤ length o) (w : v ≡ nodeAt t n) where
+  abbrev own : Guard
+  own = nth (alternatives-of t n) i .guard
+
+  -- delay
+  module _ {s : Parts} (k : v .kind ≡ 2) (c : s ≡ delay-parts t n i) where
+    abbrev left : Guard
+    left = nth (alternatives-of t (v .p)) (s .left) .guard
+
+    abbrev right : Guard
+    right = nth (alternatives-of t (v .q)) (s .right) .guard
+
+    delay-guard : own ≡ and-opt left right
+    delay-guard = ap (λ (y : SeqAlt). y .guard) (nth-of-delay N w k c)
+
+    pub left-room : at + length (node-guard t (v .p) (s .left)) ≤ length o
+    unfolding guard-text
+    left-room = first-guard-room own left right delay-guard o at room
+
+    module _ {o₁ : List ℕ} {middle : ℕ} (x : Wrote o o₁ at middle (node-guard t (v .p) (s .left))) where
+      pub right-room : middle + length (node-guard t (v .q) (s .right)) ≤ length o₁
+      unfolding guard-text
+      right-room = second-guard-room own left right delay-guard o at room x
+
+      module _ {o₂ : List ℕ} {end : ℕ} (y : Wrote o₁ o₂ middle end (node-guard t (v .q) (s .right))) where
+        pub delay-join-room : end + length (joining at middle end) ≤ length o₂
+        unfolding guard-text
+        delay-join-room = join-room own left right delay-guard o at room x y
+
+        pub delay-guarded : {o₃ : List ℕ} {next : ℕ} → Wrote o₂ o₃ end next (joining at middle end)
+            → Wrote o o₃ at next (node-guard t n i)
+        unfolding guard-text
+        delay-guarded z = guards-joined own left right delay-guard o at room x y z
+
+  -- throughout
+  module _ (k : v .kind ≡ 6) where
+    abbrev under : Guard
+    under = nth (alternatives-of t (v .q)) i .guard
+
+    abbrev condition : Guard
+    condition = guard (any (a· (v .p)))
+
+    throughout-guard : own ≡ and-opt under condition
+    throughout-guard = ap (λ (y : SeqAlt). y .guard) (nth-of-throughout N w k)
+
+    pub condition-small : v .p < 65536
+    condition-small = well-formed (N .node) w .condition-small k
+
+    pub under-room : at + length (node-guard t (v .q) i) ≤ length o
+    unfolding guard-text
+    under-room = first-guard-room own under condition throughout-guard o at room
+
+    module _ {o₁ : List ℕ} {middle : ℕ} (x : Wrote o o₁ at middle (node-guard t (v .q) i)) where
+      pub condition-room : middle + 2 ≤ length o₁
+      unfolding guard-text
+      condition-room = second-guard-room own under condition throughout-guard o at room x
+
+      module _ {o₂ : List ℕ} {end : ℕ} (y : Wrote o₁ o₂ middle end (word 1 (v .p) ∷ word 5 0 ∷ [])) where
+        pub throughout-join-room : end + length (joining at middle end) ≤ length o₂
+        unfolding guard-text
+        throughout-join-room = join-room own under condition throughout-guard o at room x y
+
+        pub throughout-guarded : {o₃ : List ℕ} {next : ℕ} → Wrote o₂ o₃ end next (joining at middle end)
+            → Wrote o o₃ at next (node-guard t n i)
+        unfolding guard-text
+        throughout-guarded z = guards-joined own under condition throughout-guard o at room x y z
+
+  -- copies
+  module _ (R : Copied v i) {b : Block} (g : b ≡ copies-block t n i) where
+    block-guard : node-guard t n i ≡ copies-guard t (v .p) (b .later) (b .index)
+    unfolding guard-text
+    block-guard = ap (λ (y : SeqAlt). guardText (y .guard)) (nth-of-block N w R g)
+
+    pub block-room : at + length (copies-guard t (v .p) (b .later) (b .index)) ≤ length o
+    block-room = rw block-guard at room
+
+    pub block-guarded : {o₁ : List ℕ} {z : ℕ} → Wrote o o₁ at z (copies-guard t (v .p) (b .later) (b .index))
+        → Wrote o o₁ at z (node-guard t n i)
+    block-guarded x = same-words (sym block-guard) x
+
+  -- one term
+  pub single-unguarded : {b : Bool} → (v .kind ≡ 2 → ⊥) → (v .kind ≡ 6 → ⊥) → b ≡ is-copies v i → b ≡ false
+      → Wrote o o at at (node-guard t n i)
+  unfolding guard-text
+  single-unguarded d g c x =
+      same-words (ap (λ (y : SeqAlt). guardText (y .guard)) (sym (single-alternative (N .node) w d g i (N .index) c x))) (nothing-written o at)
+
+module _ {t : List ℕ} {n k i : ℕ} (o : List ℕ) (at : ℕ) (C : NumberedCopies t n k i) (room : at + length (copies-guard t n k i) ≤ length o) where
+  -- one copy
+  only-guard : k ≡ 0 → copies-guard t n k i ≡ node-guard t n i
+  unfolding guard-text
+  only-guard e = ap (λ (y : SeqAlt). guardText (y .guard)) (nth-of-only C e)
+
+  pub only-room : k ≡ 0 → at + length (node-guard t n i) ≤ length o
+  only-room e = rw (only-guard e) at room
+
+  pub only-guarded : {o₁ : List ℕ} {z : ℕ} → k ≡ 0 → Wrote o o₁ at z (node-guard t n i) → Wrote o o₁ at z (copies-guard t n k i)
+  only-guarded e x = same-words (sym (only-guard e)) x
+
+  -- the earlier copies, then the last
+  module _ {a : ℕ} (m : k ≡ 0 → ⊥) (e : a ≡ length (alternatives-of t n)) where
+    abbrev all : Guard
+    all = nth (copies-of (alternatives-of t n) k) i .guard
+
+    abbrev earlier : Guard
+    earlier = nth (copies-of (alternatives-of t n) (k - 1)) (i / a) .guard
+
+    abbrev last-copy : Guard
+    last-copy = nth (alternatives-of t n) (i % a) .guard
+
+    copies-guarded-by : all ≡ and-opt earlier last-copy
+    copies-guarded-by = ap (λ (y : SeqAlt). y .guard) (nth-of-copies C m e)
+
+    pub earlier-room : at + length (copies-guard t n (k - 1) (i / a)) ≤ length o
+    unfolding guard-text
+    earlier-room = first-guard-room all earlier last-copy copies-guarded-by o at room
+
+    module _ {o₁ : List ℕ} {middle : ℕ} (x : Wrote o o₁ at middle (copies-guard t n (k - 1) (i / a))) where
+      pub last-room : middle + length (node-guard t n (i % a)) ≤ length o₁
+      unfolding guard-text
+      last-room = second-guard-room all earlier last-copy copies-guarded-by o at room x
+
+      module _ {o₂ : List ℕ} {end : ℕ} (y : Wrote o₁ o₂ middle end (node-guard t n (i % a))) where
+        pub copies-join-room : end + length (joining at middle end) ≤ length o₂
+        unfolding guard-text
+        copies-join-room = join-room all earlier last-copy copies-guarded-by o at room x y
+
+        pub copies-guarded : {o₃ : List ℕ} {next : ℕ} → Wrote o₂ o₃ end next (joining at middle end)
+            → Wrote o o₃ at next (copies-guard t n k i)
+        unfolding guard-text
+        copies-guarded z = guards-joined all earlier last-copy copies-guarded-by o at room x y z
+
+-- ---- `guard_words`
+
+-- Nothing was written: there is no guard. Something was: the `and` is what is left.
+unclosed : (g : Guard) → length (guardText g) ≡ 0 → guardText g ≡ closedGuard g
+unclosed unguarded e = refl
+unclosed (guard x) e = absurd (omega (arith, some-words x))
+
+closed : (g : Guard) → (length (guardText g) ≡ 0 → ⊥) → closedGuard g ≡ guardText g ++ (word 7 0 ∷ [])
+closed unguarded e = absurd (e refl)
+closed (guard x) e = refl
+
+-- The room for the closed guard is enough for its text.
+text-shorter : (g : Guard) → length (guardText g) ≤ length (closedGuard g)
+text-shorter unguarded = omega arith
+text-shorter (guard x) = omega (arith, length-append (expression-words x) (word 7 0 ∷ []))
+
+module _ (alts : List SeqAlt) (i : ℕ) (o : List ℕ) (at : ℕ) (room : at + length (closed-guard alts i) ≤ length o) where
+  abbrev g : Guard
+  g = nth alts i .guard
+
+  pub text-room : at + length (guard-text alts i) ≤ length o
+  unfolding guard-text closed-guard
+  text-room = omega (arith, room, text-shorter g)
+
+  module _ {o₁ : List ℕ} {end : ℕ} (x : Wrote o o₁ at end (guard-text alts i)) where
+    pub none-to-close : at ≡ end → Wrote o o₁ at end (closed-guard alts i)
+    unfolding guard-text closed-guard
+    none-to-close e = same-words (unclosed g (omega (arith, x .ends))) x
+
+    module _ (e : at ≡ end → ⊥) where
+      is-closed : closed-guard alts i ≡ guard-text alts i ++ (word 7 0 ∷ [])
+      unfolding guard-text closed-guard
+      is-closed = closed g (λ z. e (omega (arith, x .ends)))
+
+      pub close-room : end < length o₁
+      close-room =
+          omega (arith, room, ap length is-closed, length-append (guard-text alts i) (word 7 0 ∷ []), x .ends, still-long x)
+
+      pub guard-closed : {o₂ : List ℕ} {next : ℕ} → Wrote o₁ o₂ end next (word 7 0 ∷ []) → Wrote o o₂ at next (closed-guard alts i)
+      guard-closed y = same-words (sym is-closed) (last (go (guard-text alts i) (word 7 0 ∷ []) (begin o at _) x) y)
+
+-- `put_condition`: its two words.
+pub condition-put : {o o₁ o₂ : List ℕ} {at middle end : ℕ} (c : ℕ) → Wrote o o₁ at middle (word 1 c ∷ [])
+    → Wrote o₁ o₂ middle end (word 5 0 ∷ []) → Wrote o o₂ at end (word 1 c ∷ word 5 0 ∷ [])
+condition-put {o} {at = at} c x y = last (go (word 1 c ∷ []) (word 5 0 ∷ []) (begin o at _) x) y

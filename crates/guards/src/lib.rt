@@ -1,0 +1,93 @@
+// The guard of the i-th alternative of a node, written into lent work as postfix words: an AND tree, the left operand's guard,
+// then the right one's, then `and` if there are both. At the top it is closed by the `and` with the expression that it guards.
+//
+// Example: the guard of `(c throughout (d throughout a))[*2]` is a3 any a2 any and a3 any a2 any and and, closed by one more and.
+ghost use mathlib.Core.Path.{_≡_};
+ghost use mathlib.Core.List.{[], _∷_};
+ghost use Prim.Native.Nat.{_+_, _≤_, _<_};
+ghost use lib.ListN.{length};
+ghost use Rattle.words.specs.Written.{Wrote};
+ghost use Rattle.meaning.specs.Listing.{word};
+ghost use Rattle.expand.specs.ByNumber.{alternatives-of, copies-of, Numbered, NumberedCopies};
+ghost use Rattle.guards.specs.GuardText.{guard-text, closed-guard, joining};
+
+// Puts a word: operation times 16,777,216 plus argument.
+fn put_operation(out: &mut [u32], at: usize, operation: u32, argument: u32) -> usize
+    requires { ⌜ (at < length (now out)) × (operation < 16) × (argument < 65536) ⌝ }
+    ensures { λ next. ⌜ Wrote (now (out .entry)) (now (out .exit)) at next (word operation argument ∷ []) ⌝ }
+{
+    words::put(out, at, operation * 16777216 + argument)
+}
+
+// Puts a condition reduced by OR.
+fn put_condition(out: &mut [u32], at: usize, atom: u32) -> usize
+    requires { ⌜ (at + 2 ≤ length (now out)) × (atom < 65536) ⌝ }
+    ensures { λ next. ⌜ Wrote (now (out .entry)) (now (out .exit)) at next (word 1 atom ∷ word 5 0 ∷ []) ⌝ }
+{
+    let any = put_operation(out, at, 1, atom);
+    put_operation(out, any, 5, 0)
+}
+
+// Joins two guards, the first written before `middle` and the second before `end`.
+fn join_guards(out: &mut [u32], from: usize, middle: usize, end: usize) -> usize
+    requires { ⌜ end + length (joining from middle end) ≤ length (now out) ⌝ }
+    ensures { λ next. ⌜ Wrote (now (out .entry)) (now (out .exit)) end next (joining from middle end) ⌝ }
+{
+    if from == middle {
+        return end;
+    }
+    if middle == end {
+        return end;
+    }
+    put_operation(out, end, 7, 0)
+}
+
+// Puts the guard of alternative i of node n from the place on, without a closing `and`; the next place.
+fn guard_text(t: &[u32], n: u32, i: u32, work: &mut [u32], at: usize) -> usize
+    requires { ⌜ Numbered (now t) n i × (at + length (guard-text (alternatives-of (now t) n) i) ≤ length (now work)) ⌝ }
+    ensures { λ next. ⌜ Wrote (now (work .entry)) (now (work .exit)) at next (guard-text (alternatives-of (now (t .entry)) n) i) ⌝ }
+{
+    let v = tree::read(t, n);
+    if v.kind == 2 {
+        let s = expand::delay_parts(t, n, i);
+        let middle = guard_text(t, v.p, s.left, work, at);
+        let end = guard_text(t, v.q, s.right, work, middle);
+        return join_guards(work, at, middle, end);
+    }
+    if v.kind == 6 {
+        let middle = guard_text(t, v.q, i, work, at);
+        let end = put_condition(work, middle, v.p);
+        return join_guards(work, at, middle, end);
+    }
+    if expand::made_of_copies(v, i) {
+        let s = expand::copies_block(t, n, i);
+        return repeated_guard(t, v.p, s.later, s.index, work, at);
+    }
+    at
+}
+
+// The same of k + 1 copies of node n.
+fn repeated_guard(t: &[u32], n: u32, k: u32, i: u32, work: &mut [u32], at: usize) -> usize
+    requires { ⌜ NumberedCopies (now t) n k i × (at + length (guard-text (copies-of (alternatives-of (now t) n) k) i) ≤ length (now work)) ⌝ }
+    ensures { λ next. ⌜ Wrote (now (work .entry)) (now (work .exit)) at next (guard-text (copies-of (alternatives-of (now (t .entry)) n) k) i) ⌝ }
+{
+    if k == 0 {
+        return guard_text(t, n, i, work, at);
+    }
+    let a = expand::alternatives(t, n);
+    let middle = repeated_guard(t, n, k - 1, i / a, work, at);
+    let end = guard_text(t, n, i % a, work, middle);
+    join_guards(work, at, middle, end)
+}
+
+// Puts the guard of alternative i of node n from the place on, closed by its `and` if there is one; the next place.
+pub fn guard_words(t: &[u32], n: u32, i: u32, work: &mut [u32], at: usize) -> usize
+    requires { ⌜ Numbered (now t) n i × (at + length (closed-guard (alternatives-of (now t) n) i) ≤ length (now work)) ⌝ }
+    ensures { λ next. ⌜ Wrote (now (work .entry)) (now (work .exit)) at next (closed-guard (alternatives-of (now (t .entry)) n) i) ⌝ }
+{
+    let end = guard_text(t, n, i, work, at);
+    if at == end {
+        return end;
+    }
+    put_operation(work, end, 7, 0)
+}

@@ -1,0 +1,4 @@
+pub mod Cases
+pub mod Decimal
+pub mod Laws
+pub mod ListingLines

@@ -1,16 +1,16 @@
 -- The check, the count of registers and the depth count as the code meets them, and what a word that fits may be taken to be.
 -- They assume nothing.
-use mathlib.Core.Path.{_≡_, refl, sym, ap, _∙_}
+use mathlib.Core.Path.{_≡_, refl, sym, _∙_}
 use mathlib.Core.Bool.{Bool, true, false, not}
-use mathlib.Core.List.{List, [], _∷_}
+use mathlib.Core.List.{List, [], _∷_, _++_}
 use Prim.Native.Nat.{ℕ, zero, suc, _+_, _-_, _<_, _≤_, max}
-use native.Mathlib.Nat.{add-assoc, add-zero, zero-add, max-zero, zero-max, le-max-left, le-max-right, max-le, le-antisymm}
+use native.Mathlib.Nat.{add-assoc, add-zero, zero-add, max-zero, zero-max}
 use native.Mathlib.Omega.{arith}
 use native.Mathlib.Decide.{decLe}
 use lib.Dec.{T, eqb, leb, ltb, leb→le}
-use lib.ListN.{length, getD, drop, drop-of-length-le, getD-replicate}
+use lib.ListN.{length, getD, drop, drop-of-length-le, getD-replicate, length-replicate, List·getD-append, replicate}
 use lib.Seq.{getD-drop}
-use borrow.Author.Tests.{eq-eqb, ne-eqb, eqb-true, eqb-false, ltb-true, ltb-false, leb-true, le-leb, not-true, not-false}
+use borrow.Author.Tests.{eq-eqb, ne-eqb, eqb-true, eqb-false, ltb-true, ltb-false, le-leb, not-true, not-false}
 use Rattle.words.specs.Choice.{pick, pick-true, pick-false, pick-case}
 use Rattle.words.proofs.Laws.{drop-here}
 use Rattle.meaning.specs.Listing.{operation, argument, row, rows, row-of, height, is-store, registers, deepest-from, deepest}
@@ -25,18 +25,22 @@ abbrev both : Bool → Bool → Bool
 both true b = b
 both false b = false
 
+-- The test passes at each entry.
 abbrev every : {A : Type 0} → (A → Bool) → List A → Bool
 every f [] = true
 every f (x ∷ xs) = both (f x) (every f xs)
 
+-- Both tests passed, so the first did.
 both-left : (a b : Bool) → T (both a b) → T a
 both-left true b t = tt
 both-left false b t = t
 
+-- Both tests passed, so the second did.
 both-right : (a b : Bool) → T (both a b) → T b
 both-right true b t = t
 both-right false b t = absurd t
 
+-- A test that passes at each entry and at the default passes wherever one looks.
 at-each : {A : Type 0} (f : A → Bool) (d : A) (xs : List A) → T (f d) → T (every f xs) → (k : ℕ) → T (f (getD xs k d))
 at-each f d [] h t k = h
 at-each f d (x ∷ xs) h t zero = both-left (f x) (every f xs) t
@@ -47,12 +51,37 @@ leaves-one : (o : ℕ) → row-of o .leaves ≤ 1
 unfolding row-of rows
 leaves-one o = leb→le _ _ (at-each (λ (r : Row). leb (r .leaves) 1) _ rows tt tt (o - 1))
 
--- A store or the match takes one value and leaves none.
+-- A run of equal rows in the table.
+rows-in : (k n : ℕ) (r : Row) (rest : List Row) → drop k rows ≡ replicate n r ++ rest → (o : ℕ) → k + 1 ≤ o → o ≤ k + n → row-of o ≡ r
+unfolding row-of
+rows-in k n r rest e o h m =
+    let p : o - 1 ≡ k + (o - 1 - k) = omega arith in
+    let q : o - 1 - k < length (replicate n r) = rw length-replicate (omega arith) in
+    rw p
+    (sym (getD-drop k rows (o - 1 - k) (row 0 0))
+    ∙ rw (e, List·getD-append (replicate n r) rest (row 0 0) (o - 1 - k) q) (getD-replicate n (o - 1 - k) r (row 0 0) (omega arith)))
+
+-- What each kind of operation takes and leaves: a value; a change of the top; two values to one; a store or the match.
+
+-- Atom, register, zero and one.
+pub value-row : (o : ℕ) → 1 ≤ o → o ≤ 4 → row-of o ≡ row 0 1
+unfolding rows
+value-row o h k = rows-in 0 4 (row 0 1) _ refl o h k
+
+-- Any and not.
+pub change-row : (o : ℕ) → 5 ≤ o → o ≤ 6 → row-of o ≡ row 1 1
+unfolding rows
+change-row o h k = rows-in 4 2 (row 1 1) _ refl o h k
+
+-- And and or.
+pub join-row : (o : ℕ) → 7 ≤ o → o ≤ 8 → row-of o ≡ row 2 1
+unfolding rows
+join-row o h k = rows-in 6 2 (row 2 1) _ refl o h k
+
+-- The five stores and the match.
 pub end-row : (o : ℕ) → 9 ≤ o → o ≤ 14 → row-of o ≡ row 1 0
-unfolding row-of rows
-end-row o h k =
-    let e : o - 1 ≡ 8 + (o - 9) = omega arith in
-    rw e (sym (getD-drop 8 rows (o - 9) (row 0 0)) ∙ getD-replicate 6 (o - 9) (row 1 0) (row 0 0) (omega arith))
+unfolding rows
+end-row o h k = rows-in 8 6 (row 1 0) [] refl o h k
 
 -- A word raises the stack by one at most.
 pub height-rises-by-one : (h w : ℕ) → height h w ≤ h + 1
@@ -63,23 +92,25 @@ pub store-counts-one : (w : ℕ) → pick (is-store w) 1 0 ≤ 1
 store-counts-one w = pick-case (λ (n : ℕ). n ≤ 1) (is-store w) (λ _. omega arith) (λ _. omega arith)
 
 -- Both tests of a pair hold.
-both-hold : (a b : Bool) → pick a b false ≡ true → (a ≡ true) × (b ≡ true)
+pub both-hold : (a b : Bool) → pick a b false ≡ true → (a ≡ true) × (b ≡ true)
 unfolding pick
 both-hold true b e = (refl, e)
 both-hold false b e = absurd (let z : _≡_ {A = ℕ} 0 1 = cc in omega arith)
 
 -- The first test fails and the second holds.
-second-holds : (a b : Bool) → pick a false b ≡ true → (a ≡ false) × (b ≡ true)
+pub second-holds : (a b : Bool) → pick a false b ≡ true → (a ≡ false) × (b ≡ true)
 unfolding pick
 second-holds true b e = absurd (let z : _≡_ {A = ℕ} 0 1 = cc in omega arith)
 second-holds false b e = (refl, e)
 
 -- What is known of a word that fits behind k stores at height h, in a slice of `count` registers.
 pub record Fitting (count k h w : ℕ) : Type 0 where
+  pub fits : word-fits count k h w ≡ true
   pub operand : OperandFound h w
   pub alone : 9 ≤ operation w → h ≡ 1
   pub suits : argument-fits count k w ≡ true
 
+-- The tests of a word that fits, read one by one.
 pub fitting : (count k h w : ℕ) → word-fits count k h w ≡ true → Fitting count k h w
 unfolding word-fits operands-fit
 fitting count k h w e =
@@ -88,6 +119,7 @@ fitting count k h w e =
     let a = both-hold (argument-fits count k w) _ (q .1) in
     let o = second-holds (ltb h (row-of (operation w) .takes)) _ (a .1) in
     record {
+      fits = e;
       operand = record { known = omega (arith, eqb-false (operation w) 0 (p .0)); last = ltb-false _ _ (q .0); found = ltb-false _ _ (o .0) };
       alone = λ n. eqb-true _ _ (sym (pick-true _ _ (le-leb _ _ n)) ∙ o .1);
       suits = a .0;
@@ -95,6 +127,7 @@ fitting count k h w e =
 
 -- The arguments of a word that fits.
 module _ {count k h w : ℕ} (f : Fitting count k h w) where
+  -- A register that is named is below the count.
   pub register-below : operation w ≡ 2 → argument w < count
   unfolding argument-fits
   register-below q =
@@ -102,6 +135,8 @@ module _ {count k h w : ℕ} (f : Fitting count k h w) where
       ltb-true _ _ (both-hold _ _ (sym (pick-false _ _ (ne-eqb _ _ n) ∙ pick-true _ _ (eq-eqb _ _ q)) ∙ f .suits) .0)
 
 -- The needs of the leaves, where a callee's result stands for a definition.
+
+-- The tests of an argument, with the answer of `is_store` among them.
 pub by-store : {r b : Bool} (count k w : ℕ) → b ≡ is-store w
     → r ≡ pick (eqb (operation w) 1) (ltb (argument w) 65536) (pick (eqb (operation w) 2) (pick (ltb (argument w) count) (ltb (argument w) 65536) false)
     (pick b (pick (eqb (argument w) k) (ltb (argument w) 65536) false) (eqb (argument w) 0)))
@@ -109,24 +144,30 @@ pub by-store : {r b : Bool} (count k w : ℕ) → b ≡ is-store w
 unfolding argument-fits
 by-store count k w e q = rw (← e) q
 
+-- The tests of the height, with the row that `row` answers.
 pub by-row : {r : Bool} {v : Row} (h w : ℕ) → v ≡ row-of (operation w) → r ≡ pick (ltb h (v .takes)) false (pick (leb 9 (operation w)) (eqb h 1) true) → r ≡ operands-fit h w
 unfolding operands-fit
 by-row h w e q = rw (← e) q
 
+-- The tests of a word, with the answer of `argument_fits` among them.
 pub by-argument : {r b : Bool} (count k h w : ℕ) → b ≡ argument-fits count k w
     → r ≡ pick (eqb (operation w) 0) false (pick (ltb 14 (operation w)) false (pick b (operands-fit h w) false)) → r ≡ word-fits count k h w
 unfolding word-fits
 by-argument count k h w e q = rw (← e) q
 
+-- One store more.
 pub store-more : {b : Bool} (n w : ℕ) → b ≡ is-store w → b ≡ true → n + 1 ≡ n + pick (is-store w) 1 0
 store-more n w e q = rw (pick-true {A = ℕ} 1 0 (sym e ∙ q)) refl
 
+-- No store more.
 pub store-none : {b : Bool} (n w : ℕ) → b ≡ is-store w → b ≡ false → n ≡ n + pick (is-store w) 1 0
 store-none n w e q = rw (pick-false {A = ℕ} 1 0 (sym e ∙ q)) (sym (add-zero n))
 
+-- What the row that `row` answers takes is there.
 pub takes-found : {v : Row} {h : ℕ} (o : ℕ) → v ≡ row-of o → row-of o .takes ≤ h → v .takes ≤ h
 takes-found o e q = rw e q
 
+-- The height after a word, by the row that `row` answers.
 pub height-by-row : {v : Row} (h w : ℕ) → v ≡ row-of (operation w) → h - v .takes + v .leaves ≡ height h w
 height-by-row h w e = rw e refl
 
@@ -136,10 +177,12 @@ pub record Counting (s : List ℕ) (stores i : ℕ) : Type 0 where
   pub low : stores ≤ i
   pub rest : registers s ≡ stores + registers (drop i s)
 
+-- Before the first word none is counted.
 pub counting-begins : (s : List ℕ) → Counting s 0 0
 counting-begins s = record { inside = omega arith; low = omega arith; rest = sym (zero-add (registers s)) }
 
 module _ {s : List ℕ} {stores i : ℕ} (g : Counting s stores i) where
+  -- A word more.
   pub counting-on : {n : ℕ} → i < length s → n ≡ stores + pick (is-store (getD s i 0)) 1 0 → Counting s n (i + 1)
   unfolding registers
   counting-on {n} h e = record {
@@ -148,6 +191,7 @@ module _ {s : List ℕ} {stores i : ℕ} (g : Counting s stores i) where
     rest = g .rest ∙ rw (drop-here s i h, e) (sym (add-assoc stores _ _));
   }
 
+  -- At the end all are counted.
   pub counting-ends : length s ≤ i → stores ≡ registers s
   unfolding registers
   counting-ends h = sym (g .rest ∙ rw (drop-of-length-le s h) (add-zero stores))
@@ -159,31 +203,38 @@ pub record Checking (s : List ℕ) (stores h i : ℕ) : Type 0 where
   pub low : h ≤ i
   pub rest : check s ≡ check-from (registers s) (drop i s) i stores h
 
+-- Before the first word nothing is on the stack.
 pub checking-begins : (s : List ℕ) → Checking s 0 0 0
 unfolding check
 checking-begins s = record { inside = omega arith; few = omega arith; low = omega arith; rest = refl }
 
 module _ {s : List ℕ} {stores h i count : ℕ} (g : Checking s stores h i) (c : count ≡ registers s) where
+  -- The check from the place i on, with its word apart.
   opened : i < length s → check s ≡ pick (word-fits count stores h (getD s i 0)) (pick (eqb (operation (getD s i 0)) 14) (after-match (i + 1) (drop (i + 1) s))
       (check-from count (drop (i + 1) s) (i + 1) (stores + pick (is-store (getD s i 0)) 1 0) (height h (getD s i 0)))) (Faulty i)
   unfolding check-from
   opened k = g .rest ∙ rw (drop-here s i k, c) refl
 
   module _ {b : Bool} (k : i < length s) (e : b ≡ word-fits count stores h (getD s i 0)) where
+    -- The word does not fit: it is the first faulty one.
     pub faulty-here : not b ≡ true → Faulty i ≡ check s
     faulty-here q = sym (opened k ∙ pick-false _ _ (sym e ∙ not-true b q))
 
+    -- A word follows the match: it is the first faulty one.
     pub faulty-past : not b ≡ false → operation (getD s i 0) ≡ 14 → i + 1 < length s → Faulty (i + 1) ≡ check s
     unfolding after-match
     faulty-past q o m = sym (opened k ∙ pick-true _ _ (sym e ∙ not-false b q) ∙ pick-true _ _ (eq-eqb _ _ o) ∙ rw (drop-here s (i + 1) m) refl)
 
+    -- The match is the last word.
     pub described-there : not b ≡ false → operation (getD s i 0) ≡ 14 → length s ≤ i + 1 → Described ≡ check s
     unfolding after-match
     described-there q o m = sym (opened k ∙ pick-true _ _ (sym e ∙ not-false b q) ∙ pick-true _ _ (eq-eqb _ _ o) ∙ rw (drop-of-length-le s m) refl)
 
+    -- A word that fits finds what it takes.
     pub fits-here : not b ≡ false → OperandFound h (getD s i 0)
     fits-here q = fitting count stores h (getD s i 0) (sym e ∙ not-false b q) .operand
 
+    -- A word that fits and is not the match.
     pub checking-on : {n m : ℕ} → not b ≡ false → (operation (getD s i 0) ≡ 14 → ⊥)
         → n ≡ stores + pick (is-store (getD s i 0)) 1 0 → m ≡ height h (getD s i 0) → Checking s n m (i + 1)
     checking-on q o u v = record {
@@ -193,11 +244,13 @@ module _ {s : List ℕ} {stores h i count : ℕ} (g : Checking s stores h i) (c 
       rest = opened k ∙ pick-true _ _ (sym e ∙ not-false b q) ∙ pick-false _ _ (ne-eqb _ _ o) ∙ rw (c, u, v) refl;
     }
 
+-- The words end before a match: the word count is the place.
 pub ends-early : {s : List ℕ} {stores h i : ℕ} → Checking s stores h i → length s ≤ i → Faulty i ≡ check s
 unfolding check-from
 ends-early {s} g m = sym (g .rest ∙ rw (drop-of-length-le s m) refl)
 
-max-assoc : (a b c : ℕ) → max (max a b) c ≡ max a (max b c)
+-- The largest of three, in either order.
+pub max-assoc : (a b c : ℕ) → max (max a b) c ≡ max a (max b c)
 max-assoc a b c = omega arith
 
 -- The words before the place i are counted.
@@ -207,18 +260,22 @@ pub record Deepening (s : List ℕ) (deepest-yet h i : ℕ) : Type 0 where
   pub found : OperandsFound h (drop i s)
   pub rest : deepest s ≡ max deepest-yet (deepest-from h (drop i s))
 
+-- Before the first word the deepest is 0.
 pub deepening-begins : {s : List ℕ} → OperandsFound 0 s → Deepening s 0 0 0
 unfolding deepest
 deepening-begins {s} f = record { inside = omega arith; low = omega arith; found = f; rest = sym (zero-max (deepest-from 0 s)) }
 
 module _ {s : List ℕ} {d h i : ℕ} (g : Deepening s d h i) (k : i < length s) where
+  -- What the words from the place i on find, with its word apart.
   found-here : OperandsFound h (getD s i 0 ∷ drop (i + 1) s)
   found-here = rw (drop-here s i k) at (g .found)
 
+  -- The word finds what it takes.
   pub operand-found : OperandFound h (getD s i 0)
   unfolding OperandsFound
   operand-found = found-here .0
 
+  -- A word more.
   pub deepening-on : {n m : ℕ} → m ≡ height h (getD s i 0) → n ≡ max d m → Deepening s n m (i + 1)
   unfolding OperandsFound deepest-from
   deepening-on u v = record {
@@ -228,6 +285,7 @@ module _ {s : List ℕ} {d h i : ℕ} (g : Deepening s d h i) (k : i < length s)
     rest = g .rest ∙ rw (drop-here s i k, v, u) (sym (max-assoc d _ _));
   }
 
+-- At the end the deepest of all is known.
 pub deepening-ends : {s : List ℕ} {d h i : ℕ} → Deepening s d h i → length s ≤ i → d ≡ deepest s
 unfolding deepest-from
 deepening-ends {s} {d} g m = sym (g .rest ∙ rw (drop-of-length-le s m) (max-zero d))
@@ -247,14 +305,17 @@ nothing-after place (w ∷ ws) e = absurd (let z : _≡_ {A = ℕ} 0 1 = cc in o
 -- What is known where the words from a place on are as described: the word fits; a match is the last; behind another word
 -- the rest is as described.
 module _ (count w : ℕ) (ws : List ℕ) (place k h : ℕ) (d : check-from count (w ∷ ws) place k h ≡ Described) where
+  -- The word fits.
   pub described-fits : Fitting count k h w
   unfolding check-from
   described-fits = fitting count k h w (fits-else-faulty _ place d .0)
 
+  -- Behind a word that is not the match the rest is as described.
   pub described-goes-on : (operation w ≡ 14 → ⊥) → check-from count ws (place + 1) (k + pick (is-store w) 1 0) (height h w) ≡ Described
   unfolding check-from
   described-goes-on o = sym (pick-false _ _ (ne-eqb _ _ o)) ∙ fits-else-faulty _ place d .1
 
+  -- Behind the match there is nothing.
   pub described-ends : operation w ≡ 14 → ws ≡ []
   unfolding check-from
   described-ends o = nothing-after (place + 1) ws (sym (pick-true _ _ (eq-eqb _ _ o)) ∙ fits-else-faulty _ place d .1)
@@ -272,6 +333,7 @@ operands-found-from count (w ∷ ws) place k h d =
       ],
     )
 
+-- So `deepest` may be asked of it.
 pub described-operands-found : (ws : List ℕ) → check ws ≡ Described → OperandsFound 0 ws
 unfolding check
 described-operands-found ws d = operands-found-from (registers ws) ws 0 0 0 d

@@ -1,5 +1,5 @@
 -- Words whose stack can be counted: each operation is one of the fourteen and finds what it takes. Every described listing
--- is of this kind (proofs/Laws.antt, `described-operands-found`), and so is every expression by itself.
+-- is of this kind (proofs/Laws.antt, `described-operands-found`). Example: a0 not is, from height 0 on; not alone is not.
 use mathlib.Core.List.{List, [], _∷_}
 use Prim.Native.Nat.{ℕ, _≤_}
 use Rattle.meaning.specs.Listing.{operation, row-of, height}

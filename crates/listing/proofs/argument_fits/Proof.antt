@@ -5,9 +5,6 @@ use Rattle.listing.proofs.Laws.{by-store}
 use borrow.Author.Needs.{needs}
 use Rattle.listing.proofs.argument_fits.Statement.{statement}
 use Rattle.listing.proofs.argument_fits.Tie as tie
-use Rattle.listing.proofs.argument_fits.Reads as reads
-use Rattle.listing.proofs.argument_fits.Lts as lts
-use Rattle.listing.proofs.is_store.Reads as is-store-reads
 
 -- src/lib.rt:111:13
 cast-a : tie.Need-cast-a

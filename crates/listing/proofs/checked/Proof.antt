@@ -5,12 +5,6 @@ use lib.ListN.{length}
 use Rattle.listing.proofs.Laws.{Checking, checking-begins, faulty-here, faulty-past, described-there, fits-here, checking-on, ends-early}
 use Rattle.listing.proofs.checked.Statement.{statement}
 use Rattle.listing.proofs.checked.Tie as tie
-use Rattle.listing.proofs.checked.Reads as reads
-use Rattle.listing.proofs.checked.Lts as lts
-use Rattle.listing.proofs.height_with.Reads as height-with-reads
-use Rattle.listing.proofs.registers.Reads as registers-reads
-use Rattle.listing.proofs.stores_with.Reads as stores-with-reads
-use Rattle.listing.proofs.word_fits.Reads as word-fits-reads
 
 abbrev Inv-loop : tie.InvT-loop
 Inv-loop listing count stores₀ height₀ i₀ stores height i = Checking listing stores height i

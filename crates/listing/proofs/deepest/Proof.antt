@@ -5,10 +5,6 @@ use lib.ListN.{length}
 use Rattle.listing.proofs.Laws.{Deepening, deepening-begins, operand-found, deepening-on, deepening-ends}
 use Rattle.listing.proofs.deepest.Statement.{statement}
 use Rattle.listing.proofs.deepest.Tie as tie
-use Rattle.listing.proofs.deepest.Reads as reads
-use Rattle.listing.proofs.deepest.Lts as lts
-use Rattle.listing.proofs.height_with.Reads as height-with-reads
-use Rattle.listing.proofs.larger.Reads as larger-reads
 
 abbrev Inv-loop : tie.InvT-loop
 Inv-loop listing deepest₀ height₀ i₀ deepest height i = Deepening listing deepest height i

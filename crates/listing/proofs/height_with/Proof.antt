@@ -3,9 +3,6 @@ use Rattle.listing.proofs.Laws.{takes-found, height-by-row}
 use borrow.Author.Needs.{needs}
 use Rattle.listing.proofs.height_with.Statement.{statement}
 use Rattle.listing.proofs.height_with.Tie as tie
-use Rattle.listing.proofs.height_with.Reads as reads
-use Rattle.listing.proofs.height_with.Lts as lts
-use Rattle.listing.proofs.row.Reads as row-reads
 
 -- src/lib.rt:89:9
 row-requires : tie.Need-row-requires

@@ -4,8 +4,6 @@ use Rattle.words.specs.Choice.{tests}
 use Rattle.meaning.specs.Listing.{is-store}
 use Rattle.listing.proofs.is_store.Statement.{statement}
 use Rattle.listing.proofs.is_store.Tie as tie
-use Rattle.listing.proofs.is_store.Reads as reads
-use Rattle.listing.proofs.is_store.Lts as lts
 
 -- src/lib.rt:68:9
 returns : tie.Need-returns

@@ -4,9 +4,6 @@ use Rattle.listing.proofs.Laws.{by-row}
 use borrow.Author.Needs.{needs}
 use Rattle.listing.proofs.operands_fit.Statement.{statement}
 use Rattle.listing.proofs.operands_fit.Tie as tie
-use Rattle.listing.proofs.operands_fit.Reads as reads
-use Rattle.listing.proofs.operands_fit.Lts as lts
-use Rattle.listing.proofs.row.Reads as row-reads
 
 -- src/lib.rt:136:9
 row-requires : tie.Need-row-requires

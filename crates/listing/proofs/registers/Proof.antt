@@ -5,9 +5,6 @@ use lib.ListN.{length}
 use Rattle.listing.proofs.Laws.{Counting, counting-begins, counting-on, counting-ends}
 use Rattle.listing.proofs.registers.Statement.{statement}
 use Rattle.listing.proofs.registers.Tie as tie
-use Rattle.listing.proofs.registers.Reads as reads
-use Rattle.listing.proofs.registers.Lts as lts
-use Rattle.listing.proofs.stores_with.Reads as stores-with-reads
 
 abbrev Inv-loop : tie.InvT-loop
 Inv-loop listing stores₀ i₀ stores i = Counting listing stores i

@@ -3,8 +3,6 @@ use Rattle.meaning.specs.Listing.{row-of, rows}
 use borrow.Author.Needs.{needs}
 use Rattle.listing.proofs.row.Statement.{statement}
 use Rattle.listing.proofs.row.Tie as tie
-use Rattle.listing.proofs.row.Reads as reads
-use Rattle.listing.proofs.row.Lts as lts
 
 -- src/lib.rt:59:11
 sub-result : tie.Need-sub-result

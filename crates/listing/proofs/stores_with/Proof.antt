@@ -3,9 +3,6 @@ use Rattle.listing.proofs.Laws.{store-more, store-none}
 use borrow.Author.Needs.{needs}
 use Rattle.listing.proofs.stores_with.Statement.{statement}
 use Rattle.listing.proofs.stores_with.Tie as tie
-use Rattle.listing.proofs.stores_with.Reads as reads
-use Rattle.listing.proofs.stores_with.Lts as lts
-use Rattle.listing.proofs.is_store.Reads as is-store-reads
 
 -- src/lib.rt:78:8
 is-store-requires : tie.Need-is-store-requires

@@ -5,10 +5,6 @@ use Rattle.listing.proofs.Laws.{by-argument}
 use borrow.Author.Needs.{needs}
 use Rattle.listing.proofs.word_fits.Statement.{statement}
 use Rattle.listing.proofs.word_fits.Tie as tie
-use Rattle.listing.proofs.word_fits.Reads as reads
-use Rattle.listing.proofs.word_fits.Lts as lts
-use Rattle.listing.proofs.argument_fits.Reads as argument-fits-reads
-use Rattle.listing.proofs.operands_fit.Reads as operands-fit-reads
 
 -- src/lib.rt:152:9
 returns : tie.Need-returns

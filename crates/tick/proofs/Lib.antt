@@ -1,0 +1,7 @@
+pub mod Tests
+pub mod Place
+pub mod NotedWord
+pub mod Surveying
+pub mod AppliedWord
+pub mod Evaluating
+pub mod Refusals

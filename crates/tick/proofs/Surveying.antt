@@ -1,0 +1,229 @@
+-- The pass over a listing: that it lets through exactly the described ones, and what it has counted of them. It holds a register
+-- to the bound of all register numbers alone, so each fact on the check has two halves: where no register named so far is
+-- missing, the check comes this far too; and a described listing is never stopped. They assume nothing.
+use mathlib.Core.Path.{_≡_, refl, sym, ap, _∙_}
+use mathlib.Core.Bool.{Bool, true, false}
+use mathlib.Core.List.{List, [], _∷_}
+use Prim.Native.Nat.{ℕ, _+_, _<_, _≤_, max}
+use native.Mathlib.Nat.{add-assoc, add-zero, zero-add, max-zero, zero-max, max-le, le-max-left, le-max-right}
+use native.Mathlib.Omega.{arith}
+use lib.Dec.{eqb, ltb}
+use lib.ListN.{length, drop, drop-of-length-le}
+use borrow.Author.Tests.{eq-eqb, ne-eqb, lt-ltb, eqb-true}
+use Rattle.words.specs.Choice.{pick, pick-true, pick-false, pick-case}
+use Rattle.words.proofs.Laws.{drop-here}
+use Rattle.meaning.specs.Listing.{operation, argument, height, registers, deepest-from, deepest, atoms-named}
+use Rattle.meaning.specs.Check.{argument-fits, operands-fit, word-fits, after-match, check-from, check}
+use Rattle.meaning.specs.Tick.{named-bits}
+use Rattle.meaning.specs.declared.Checked.{Checked}
+use Rattle.meaning.specs.declared.Checked.the-variants.{Described, Faulty as FaultyAt}
+use Rattle.listing.proofs.Laws.{height-rises-by-one, store-counts-one, max-assoc, Fitting, register-below, described-fits, described-goes-on, described-ends}
+use Rattle.tick.specs.Survey.{tallied, noted, surveyed-if, surveyed, Undescribed}
+use Rattle.tick.specs.declared.Tally.{Tally}
+use Rattle.tick.specs.declared.Noted.{Noted}
+use Rattle.tick.specs.declared.Noted.the-variants.{Fits, Unfit}
+use Rattle.tick.specs.declared.Surveyed.the-variants.{Whole, Faulty}
+use Rattle.tick.proofs.Tests.{one-test, made-twice}
+use Rattle.tick.proofs.Place.{word-at, behind}
+
+-- The exact check finds the fault that is there.
+pub fault-found : {c : Checked} {place : ℕ} (ws : List ℕ) → c ≡ check ws → c ≡ FaultyAt place → FaultyAt place ≡ check ws
+fault-found ws e q = sym q ∙ e
+
+-- It does not find a described listing where there is none.
+pub never-described : {c : Checked} (ws : List ℕ) → Undescribed ws → c ≡ check ws → c ≡ Described → FaultyAt 0 ≡ check ws
+never-described ws u e q = absurd (u .never (sym e ∙ q))
+
+-- What a word adds to the registers named.
+register-named : ℕ → ℕ
+register-named w = pick (eqb (operation w) 2) (argument w + 1) 0
+
+-- The two bounds agree on a register below the count.
+below-the-count : (b : Bool) (a count : ℕ) (other : Bool) → pick b (a + 1) 0 ≤ count
+    → pick b (pick (ltb a 65536) (ltb a 65536) false) other ≡ pick b (pick (ltb a count) (ltb a 65536) false) other
+unfolding pick
+below-the-count true a count other h = rw (lt-ltb a count (omega arith)) (made-twice (ltb a 65536))
+below-the-count false a count other h = refl
+
+-- Where the register that it names is below the count, a word fits under the bound as it does under the count.
+same-fits : (count k h w : ℕ) → register-named w ≤ count → word-fits 65536 k h w ≡ word-fits count k h w
+unfolding register-named word-fits argument-fits
+same-fits count k h w n =
+    ap (λ (b : Bool). pick (eqb (operation w) 0) false (pick (ltb 14 (operation w)) false (pick (pick (eqb (operation w) 1) (ltb (argument w) 65536) b) (operands-fit h w) false)))
+    (below-the-count (eqb (operation w) 2) (argument w) count _ n)
+
+-- A word of a described listing names a register below the count.
+named-below : (count k h w : ℕ) → Fitting count k h w → register-named w ≤ count
+unfolding register-named
+named-below count k h w f = pick-case (λ (n : ℕ). n ≤ count) (eqb (operation w) 2) (λ q. omega (arith, register-below f (eqb-true _ _ q))) (λ _. omega arith)
+
+-- A word that was noted fits, and the tally has it.
+fits-noted : {x t : Tally} (b : Bool) → pick b (Fits x) Unfit ≡ Fits t → (b ≡ true) × (t ≡ x)
+unfolding pick
+fits-noted true e = (refl, (cc))
+fits-noted false e = absurd (let z : _≡_ {A = ℕ} 0 1 = cc in omega arith)
+
+-- A word that was not noted does not fit.
+unfit-noted : (x : Tally) (b : Bool) → pick b (Fits x) Unfit ≡ Unfit → b ≡ false
+unfolding pick
+unfit-noted x true e = absurd (let z : _≡_ {A = ℕ} 0 1 = cc in omega arith)
+unfit-noted x false e = refl
+
+-- Bits so far, and those of the words that remain.
+bits-on : (atom above bits rest : Bool) → pick bits (pick atom (pick above false rest) rest) false ≡ pick (pick atom (pick above false bits) bits) rest false
+unfolding pick
+bits-on true true true rest = refl
+bits-on true true false rest = refl
+bits-on true false bits rest = refl
+bits-on false above bits rest = refl
+
+-- What is counted of the words before the place i; a described listing names no register past its own.
+pub record Tallying (ws lent : List ℕ) (s : Tally) (i : ℕ) : Type 0 where
+  pub few : s .stores ≤ i
+  pub low : s .height ≤ i
+  pub stores : registers ws ≡ s .stores + registers (drop i ws)
+  pub deep : deepest ws ≡ max (s .deepest) (deepest-from (s .height) (drop i ws))
+  pub atoms : atoms-named ws ≡ max (s .atoms) (atoms-named (drop i ws))
+  pub bits : named-bits lent ws ≡ pick (s .bits) (named-bits lent (drop i ws)) false
+  pub named : check ws ≡ Described → s .named ≤ registers ws
+
+-- The pass at the place i.
+pub record Surveying (ws lent : List ℕ) (s : Tally) (i : ℕ) : Type 0 where
+  pub inside : i ≤ length ws
+  pub tally : Tallying ws lent s i
+  pub enough : s .named ≤ registers ws → check ws ≡ check-from (registers ws) (drop i ws) i (s .stores) (s .height)
+  pub only : check ws ≡ Described → check-from (registers ws) (drop i ws) i (s .stores) (s .height) ≡ Described
+
+-- Before the first word nothing is counted.
+pub surveying-begins : (ws lent : List ℕ) → Surveying ws lent (record { stores = 0; height = 0; deepest = 0; atoms = 0; named = 0; bits = true }) 0
+unfolding check deepest pick
+surveying-begins ws lent = record {
+  inside = omega arith;
+  tally = record {
+    few = omega arith;
+    low = omega arith;
+    stores = sym (zero-add (registers ws));
+    deep = sym (zero-max (deepest ws));
+    atoms = sym (zero-max (atoms-named ws));
+    bits = refl;
+    named = λ _. omega arith;
+  };
+  enough = λ _. refl;
+  only = λ d. d;
+}
+
+-- One more word, at the place i.
+module _ {ws lent : List ℕ} {s : Tally} {i : ℕ} {n : Noted} (g : Surveying ws lent s i) (h : i < length ws) (e : n ≡ noted lent (word-at ws i) s) where
+  -- What remains, with the word at i apart.
+  here : check-from (registers ws) (drop i ws) i (s .stores) (s .height) ≡ check-from (registers ws) (word-at ws i ∷ behind ws i) i (s .stores) (s .height)
+  here = rw (drop-here ws i h) refl
+
+  -- A described listing is described from here on.
+  only-here : check ws ≡ Described → check-from (registers ws) (word-at ws i ∷ behind ws i) i (s .stores) (s .height) ≡ Described
+  only-here d = sym here ∙ g .only d
+
+  -- A word of a described listing fits.
+  fitting-here : check ws ≡ Described → Fitting (registers ws) (s .stores) (s .height) (word-at ws i)
+  fitting-here d = described-fits _ _ _ _ _ _ (only-here d)
+
+  -- A word that does not fit under the bound is in no described listing.
+  pub unfit-here : n ≡ Unfit → Undescribed ws
+  unfolding noted
+  unfit-here q = record {
+    never = λ d.
+        let f = fitting-here d in
+        let t : false ≡ true = sym (unfit-noted (tallied lent (word-at ws i) s) _ (sym e ∙ q)) ∙ same-fits _ _ _ _ (named-below _ _ _ _ f) ∙ f .fits in
+        let z : _≡_ {A = ℕ} 0 1 = cc in
+        omega arith;
+  }
+
+  module _ {t : Tally} (q : n ≡ Fits t) where
+    -- The word fits under the bound.
+    fits-bound : word-fits 65536 (s .stores) (s .height) (word-at ws i) ≡ true
+    unfolding noted
+    fits-bound = fits-noted _ (sym e ∙ q) .0
+
+    -- The tally has the word.
+    tally-here : t ≡ tallied lent (word-at ws i) s
+    unfolding noted
+    tally-here = fits-noted (word-fits 65536 (s .stores) (s .height) (word-at ws i)) (sym e ∙ q) .1
+
+    -- The tally counts the word, a match too.
+    tallying-on : Tallying ws lent t (i + 1)
+    unfolding tallied registers deepest-from atoms-named named-bits register-named
+    tallying-on = rw tally-here record {
+      few = omega (arith, g .tally .few, store-counts-one (word-at ws i));
+      low = omega (arith, g .tally .low, height-rises-by-one (s .height) (word-at ws i));
+      stores = g .tally .stores ∙ rw (drop-here ws i h) (sym (add-assoc (s .stores) _ _));
+      deep = g .tally .deep ∙ rw (drop-here ws i h) (sym (max-assoc (s .deepest) _ _));
+      atoms = g .tally .atoms ∙ rw (drop-here ws i h) (sym (max-assoc (s .atoms) _ _));
+      bits = g .tally .bits ∙ rw (drop-here ws i h) (bits-on _ _ (s .bits) _);
+      named = λ d. max-le (g .tally .named d) (named-below _ _ _ _ (fitting-here d));
+    }
+
+    -- A word that fits and is not the match.
+    pub surveying-on : (operation (word-at ws i) ≡ 14 → ⊥) → Surveying ws lent t (i + 1)
+    unfolding tallied register-named check-from
+    surveying-on o = record {
+      inside = omega arith;
+      tally = tallying-on;
+      enough = rw tally-here λ m.
+          g .enough (omega (arith, le-max-left (s .named) (register-named (word-at ws i))))
+          ∙ here
+          ∙ pick-true _ _ (sym (same-fits _ _ _ _ (omega (arith, le-max-right (s .named) (register-named (word-at ws i))))) ∙ fits-bound)
+          ∙ pick-false _ _ (ne-eqb _ _ o);
+      only = rw tally-here λ d. described-goes-on _ _ _ _ _ _ (only-here d) o;
+    }
+
+    -- A word follows the match.
+    pub word-after : operation (word-at ws i) ≡ 14 → i + 1 < length ws → Undescribed ws
+    word-after o m = record {
+      never = λ d.
+          let z : behind ws i ≡ [] = described-ends _ _ _ _ _ _ (only-here d) o in
+          let y : _≡_ {A = ℕ} 0 1 = cc (drop-here ws (i + 1) m) in
+          omega arith;
+    }
+
+    -- At the end all stores are counted.
+    all-stores : length ws ≤ i + 1 → registers ws ≡ t .stores
+    unfolding registers
+    all-stores m = tallying-on .stores ∙ rw (drop-of-length-le ws m) (add-zero _)
+
+    -- A register is named that has no store.
+    pub unstored : operation (word-at ws i) ≡ 14 → length ws ≤ i + 1 → t .stores < t .named → Undescribed ws
+    unstored o m k = record { never = λ d. omega (arith, tallying-on .named d, all-stores m) }
+
+    -- The match is the last word, and each register named has its store.
+    described-here : operation (word-at ws i) ≡ 14 → length ws ≤ i + 1 → t .named ≤ t .stores → check ws ≡ Described
+    unfolding tallied register-named check-from after-match
+    described-here o m k =
+        let l : t .named ≤ registers ws = omega (arith, all-stores m) in
+        let r : max (s .named) (register-named (word-at ws i)) ≤ registers ws = rw tally-here at l in
+        g .enough (omega (arith, le-max-left (s .named) (register-named (word-at ws i))))
+        ∙ here
+        ∙ pick-true _ _ (sym (same-fits _ _ _ _ (omega (arith, le-max-right (s .named) (register-named (word-at ws i))))) ∙ fits-bound)
+        ∙ pick-true _ _ (eq-eqb _ _ o)
+        ∙ rw (drop-of-length-le ws m) refl
+
+    -- So the pass lets the listing through, with what it counted.
+    pub whole-there : operation (word-at ws i) ≡ 14 → length ws ≤ i + 1 → t .named ≤ t .stores
+        → Whole (record { registers = t .stores; atoms = t .atoms; deepest = t .deepest; bits = t .bits }) ≡ surveyed ws lent
+    unfolding surveyed surveyed-if deepest-from atoms-named named-bits pick
+    whole-there o m k =
+        let w = tallying-on in
+        let a : t .atoms ≡ atoms-named ws = sym (w .atoms ∙ rw (drop-of-length-le ws m) (max-zero _)) in
+        let d : t .deepest ≡ deepest ws = sym (w .deep ∙ rw (drop-of-length-le ws m) (max-zero _)) in
+        let b : t .bits ≡ named-bits lent ws = sym (w .bits ∙ rw (drop-of-length-le ws m) (one-test (t .bits))) in
+        rw (described-here o m k, ← all-stores m, a, d, b) refl
+
+-- The words end before a match.
+pub ends-early : {ws lent : List ℕ} {s : Tally} {i : ℕ} → Surveying ws lent s i → length ws ≤ i → Undescribed ws
+unfolding check-from
+ends-early {ws} g m = record {
+  never = λ d. let q = rw (drop-of-length-le ws m) at (g .only d) in let z : _≡_ {A = ℕ} 0 1 = cc in omega arith;
+}
+
+-- The fault that is there is the pass's answer.
+pub faulty-there : {place : ℕ} (ws lent : List ℕ) → FaultyAt place ≡ check ws → Faulty place ≡ surveyed ws lent
+unfolding surveyed surveyed-if
+faulty-there ws lent e = rw (← e) refl

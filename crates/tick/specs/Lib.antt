@@ -1,0 +1,3 @@
+pub mod Survey
+pub mod Stack
+pub mod Stepped

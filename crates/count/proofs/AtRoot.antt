@@ -1,29 +1,29 @@
 -- The walk from the root: a root within from the answers of its operands, any other root as a node of depth 1.
 use mathlib.Core.Path.{_≡_, refl, sym, ap, _∙_}
-use mathlib.Core.Bool.{Bool, true, false, not}
+use mathlib.Core.Bool.{true, false}
 use mathlib.Core.List.{List}
 use Prim.Native.Nat.{ℕ, _+_, _*_, _-_, _/_, _≤_, _<_}
 use native.Mathlib.Omega.{arith}
 use lib.Dec.{ltb}
 use lib.ListN.{length}
 use borrow.Author.Tests.{ltb-false}
-use Rattle.words.specs.Choice.{pick, pick-case}
-use Rattle.meaning.specs.Tree.{Seq, within, nodeAt, treeAt, nodes, below, root}
+use Rattle.words.specs.Choice.{pick-case}
+use Rattle.meaning.specs.Tree.{nodeAt, treeAt, nodes, root}
 use Rattle.meaning.specs.Alternative.{SeqAlt, expand}
-use Rattle.meaning.specs.Refusals.{entries, counts, and-then, walk, within-fits, pair-counts, limited-within, walk-root, room-of}
-use Rattle.meaning.specs.Lowerable.{WellFormed, FormedTable}
+use Rattle.meaning.specs.Refusals.{entries, counts, and-then, walk, pair-counts, limited-within, walk-root, room-of}
+use Rattle.meaning.specs.Lowerable.{WellFormed, FormedTable, WalkableRoot}
 use Rattle.meaning.specs.declared.Node.{Node}
 use Rattle.meaning.specs.declared.Counts.{Counts}
 use Rattle.meaning.specs.declared.Walked.{Walked}
 use Rattle.meaning.specs.declared.Walked.the-variants.{Counted, Refused}
 use Rattle.meaning.proofs.Nodes.{at-atom, at-delay, at-consec, at-goto, at-nonconsec, at-throughout, at-within}
 use Rattle.meaning.proofs.Ranges.{by-kind}
-use Rattle.meaning.proofs.Walks.{the-walk-counts-the-expansion}
-use Rattle.count.specs.Capped.{counts-of, capped}
-use Rattle.count.specs.Nodes.{Countable, limit, fits-within, paired}
+use Rattle.meaning.proofs.Walks.{the-walk-counts-the-expansion, a-walked-root-is-walkable, root-counts, the-walk-counts-the-root}
+use Rattle.count.specs.Nodes.{Countable, limit, paired}
 use Rattle.count.proofs.Leaves.{one-below}
 use Rattle.count.proofs.Stands.{limit-capped}
 
+-- 01: "at most 65,536".
 room-is-small : (work : ℕ) → room-of work ≤ 65536
 unfolding room-of
 room-is-small work = pick-case (λ (r : ℕ). r ≤ 65536) (ltb 65536 (work / 16)) (λ _. omega arith) (λ e. ltb-false 65536 (work / 16) e)
@@ -37,9 +37,11 @@ module _ (t : List ℕ) (F : FormedTable t) (work : ℕ) {room : ℕ} (e : room 
   small : room ≤ 65536
   small = rw e (room-is-small work)
 
+  -- The root may be walked as a node of depth 1 ..
   pub root-countable : Countable t (nodes t - 1) room 1
   root-countable = record { formed = F; inside = omega (arith, F .some); rooms = small; deep = omega arith }
 
+  -- .. and is the last node, which the code has as one less than their number.
   root-is : root t ≡ treeAt t (nodes t - 1)
   root-is = ap (λ (k : ℕ). treeAt t k) (sym (one-below (nodes t) (λ z. omega (arith, F .some))))
 
@@ -61,14 +63,17 @@ module _ (t : List ℕ) (work : ℕ) {room : ℕ} {v : Node} (F : FormedTable t)
   words : WellFormed (nodes t - 1) (nodeAt t (nodes t - 1))
   words = F .each (nodes t - 1) (omega (arith, F .some))
 
+  -- Any other root than a within.
   pub other-root-done : {r : Walked} → (v .kind ≡ 7 → ⊥) → r ≡ walk room 1 (treeAt t (nodes t - 1)) → r ≡ walk-root (room-of work) (root t)
   other-root-done f q = q ∙ rw (root-is t F work e, e) (sym (no-within t (nodes t - 1) (room-of work) words (rw w at f)))
 
+  -- A root within: seq1, then seq2, then the pairs.
   within-walk : v .kind ≡ 7 → walk-root (room-of work) (root t) ≡ and-then (walk room 1 (treeAt t (v .p))) (and-then (walk room 1 (treeAt t (v .q))) (limited-within room (nodes t - 1) (expand (treeAt t (v .p))) (expand (treeAt t (v .q)))))
   unfolding walk-root
   within-walk k =
       let k′ = rw w at k in rw (root-is t F work e, ← e, w, at-within t (nodes t - 1) k′ (words .within-one k′) (words .within-two k′)) refl
 
+  -- Its operands may be walked, and have depth 1 too.
   operand-countable : (k : ℕ) → k < nodes t - 1 → Countable t k room 1
   operand-countable k l = record { formed = F; inside = omega arith; rooms = small t F work e; deep = omega arith }
 
@@ -78,6 +83,7 @@ module _ (t : List ℕ) (work : ℕ) {room : ℕ} {v : Node} (F : FormedTable t)
   pub two-countable : (v .kind ≡ 7) → Countable t (v .q) room 1
   two-countable k = operand-countable _ (rw w (words .within-two (rw w at k)))
 
+  -- A refusal in seq1, or in seq2, is the answer ..
   pub one-refused : {number place : ℕ} {x : Walked} → v .kind ≡ 7 → x ≡ walk room 1 (treeAt t (v .p)) → x ≡ Refused number place → x ≡ walk-root (room-of work) (root t)
   unfolding and-then
   one-refused k a q = q ∙ sym (within-walk k ∙ rw (sym a ∙ q) refl)
@@ -87,6 +93,7 @@ module _ (t : List ℕ) (work : ℕ) {room : ℕ} {v : Node} (F : FormedTable t)
   unfolding and-then
   two-refused k a q a′ q′ = q′ ∙ sym (within-walk k ∙ rw (sym a ∙ q, sym a′ ∙ q′) refl)
 
+  -- .. else 9, 10 and 11 of the root.
   pub within-done : {c c′ : Counts} {x y z : Walked} → v .kind ≡ 7 → x ≡ walk room 1 (treeAt t (v .p)) → x ≡ Counted c
       → y ≡ walk room 1 (treeAt t (v .q)) → y ≡ Counted c′ → z ≡ paired room (nodes t - 1) c c′ → z ≡ walk-root (room-of work) (root t)
   unfolding and-then
@@ -97,5 +104,14 @@ module _ (t : List ℕ) (work : ℕ) {room : ℕ} {v : Node} (F : FormedTable t)
       rw (one, two) (paired-counts room (nodes t - 1) _ _ (small t F work e)) in
       u ∙ decided ∙ sym (within-walk k ∙ rw (sym a ∙ q, sym a′ ∙ q′) refl)
 
+  -- The bound of the room, for what the answers are bounded by.
   pub room-enough : room ≤ 65536
   room-enough = small t F work e
+
+-- What a caller has of a root that was counted: 5 to 11 fall on none of its nodes ..
+pub a-counted-root-is-walkable : (t : List ℕ) (room : ℕ) {r : Walked} {c : Counts} → r ≡ walk-root room (root t) → r ≡ Counted c → WalkableRoot room (root t)
+a-counted-root-is-walkable t room {r} {c} e q = a-walked-root-is-walkable room (root t) c (sym e ∙ q)
+
+-- .. and the counts are its own.
+pub a-counted-root-is-counted : (t : List ℕ) (room : ℕ) {r : Walked} {c : Counts} → r ≡ walk-root room (root t) → r ≡ Counted c → c ≡ root-counts (root t)
+a-counted-root-is-counted t room {r} {c} e q = the-walk-counts-the-root room (root t) c (sym e ∙ q)

@@ -1,17 +1,18 @@
 -- Capped counts are small, and what the code computes of small ones fits 64 bits. Assumes nothing.
 use mathlib.Core.Path.{_≡_, refl}
-use mathlib.Core.Bool.{Bool, true, false}
-use Prim.Native.Nat.{ℕ, zero, suc, _+_, _*_, _≤_, _<_}
+use mathlib.Core.Bool.{Bool}
+use Prim.Native.Nat.{ℕ, zero, suc, _+_, _*_, _≤_}
 use native.Mathlib.Nat.{mul-le-mul}
 use native.Mathlib.Omega.{arith}
-use lib.Dec.{eqb, ltb}
+use lib.Dec.{ltb}
 use borrow.Author.Tests.{ltb-false}
 use mir.Val.{Fits}
 use mir.Syntax.{w64}
-use Rattle.words.specs.Choice.{pick, pick-case}
+use Rattle.words.specs.Choice.{pick-case}
 use Rattle.meaning.specs.declared.Counts.{Counts}
-use Rattle.count.specs.Capped.{other-term, capped, Small, product, sum, times, copied, summed, with-empty, not-plain}
+use Rattle.count.specs.Capped.{capped, Small, product, sum, copied, summed, not-plain}
 
+-- Whatever the numbers were.
 capped-is-small : (a e : ℕ) (plain guarded : Bool) → Small (capped a e plain guarded)
 unfolding capped
 capped-is-small a e plain guarded =
@@ -29,9 +30,11 @@ module _ (l r : Counts) {c : Counts} where
   unfolding sum
   sum-is-small e = rw e (capped-is-small _ _ _ _)
 
+-- The flags do not matter.
 pub not-plain-is-small : (c : Counts) {d : Counts} → Small c → d ≡ not-plain c → Small d
 not-plain-is-small c s e = rw e (record { few = s .few; short = s .short })
 
+-- However many copies are made, and however many are summed up.
 copied-small : (base copies : Counts) (k : ℕ) → Small copies → Small (copied base copies k)
 unfolding copied
 copied-small base copies zero s = s
@@ -42,6 +45,7 @@ unfolding summed
 summed-small base total copies zero s = s
 summed-small base total copies (suc count) s = summed-small base (sum total copies) (product copies base) count (sum-is-small total copies refl)
 
+-- The same, of what the code has under another name.
 pub copied-is-small : (base : Counts) (k : ℕ) {c : Counts} → Small base → c ≡ copied base base k → Small c
 copied-is-small base k s e = rw e (copied-small base base k s)
 

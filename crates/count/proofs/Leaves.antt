@@ -4,12 +4,12 @@ use mathlib.Core.Bool.{Bool, true, false, not}
 use mathlib.Core.List.{List}
 use Prim.Native.Nat.{ℕ, zero, suc, _+_, _*_, _-_, _≤_, _<_}
 use native.Mathlib.Omega.{arith}
-use lib.Dec.{eqb, ltb}
+use lib.Dec.{eqb}
 use lib.ListN.{length}
 use borrow.Author.Tests.{eq-eqb, ne-eqb, le-ltb, not-true, not-false}
 use Rattle.words.specs.Choice.{pick, pick-yes, pick-no}
 use Rattle.meaning.specs.Tree.{below, unlimited}
-use Rattle.meaning.specs.Lowerable.{WellFormed, FormedTable}
+use Rattle.meaning.specs.Lowerable.{WellFormed}
 use Rattle.meaning.specs.declared.Node.{Node}
 use Rattle.meaning.specs.declared.Counts.{Counts}
 use Rattle.meaning.specs.declared.Walked.{Walked}
@@ -35,9 +35,11 @@ pub record Copying (base : Counts) (k : ℕ) (copies : Counts) (i : ℕ) : Type 
   pub small : Small copies
   pub rest : copied base base k ≡ copied base copies (k - i)
 
+-- At first the base is the only copy ..
 pub copying-begins : (base : Counts) (k : ℕ) → Small base → Copying base k base 0
 copying-begins base k s = record { turn = omega arith; small = s; rest = let e : k - 0 ≡ k = omega arith in rw e refl }
 
+-- .. each turn makes one more ..
 pub copying-on : {base copies next : Counts} {k i : ℕ} → Copying base k copies i → i < k → next ≡ product copies base → Copying base k next (i + 1)
 unfolding copied
 copying-on {base} {copies} {next} {k} {i} g h e = record {
@@ -46,6 +48,7 @@ copying-on {base} {copies} {next} {k} {i} g h e = record {
   rest = let m : k - i ≡ suc (k - (i + 1)) = omega arith in g .rest ∙ rw (m, e) refl;
 }
 
+-- .. and at the end all are made.
 pub copying-ends : {base copies : Counts} {k i : ℕ} → Copying base k copies i → k ≤ i → copies ≡ copied base base k
 unfolding copied
 copying-ends {base} {copies} {k} {i} g h = let m : k - i ≡ 0 = omega arith in sym (g .rest ∙ rw m refl)
@@ -57,6 +60,7 @@ pub record Summing (base first : Counts) (count : ℕ) (total copies : Counts) (
   pub small-copies : Small copies
   pub rest : summed base nothing first count ≡ summed base total copies (count - i)
 
+-- At first the total is nothing ..
 pub summing-begins : (base first : Counts) (count : ℕ) → Small first → Summing base first count nothing first 0
 summing-begins base first count s = record {
   turn = omega arith;
@@ -65,6 +69,7 @@ summing-begins base first count s = record {
   rest = let e : count - 0 ≡ count = omega arith in rw e refl;
 }
 
+-- .. each turn adds these copies and makes one more of each ..
 pub summing-on : {base first total copies total′ copies′ : Counts} {count i : ℕ} → Summing base first count total copies i → i < count
     → total′ ≡ sum total copies → copies′ ≡ product copies base → Summing base first count total′ copies′ (i + 1)
 unfolding summed
@@ -75,22 +80,27 @@ summing-on {base} {first} {total} {copies} {total′} {copies′} {count} {i} g 
   rest = let m : count - i ≡ suc (count - (i + 1)) = omega arith in g .rest ∙ rw (m, e, q) refl;
 }
 
+-- .. and at the end all are added.
 pub summing-ends : {base first total copies : Counts} {count i : ℕ} → Summing base first count total copies i → count ≤ i
     → total ≡ summed base nothing first count
 unfolding summed
 summing-ends {count = count} {i = i} g h = let m : count - i ≡ 0 = omega arith in sym (g .rest ∙ rw m refl)
 
+-- A total from nothing on is small.
 pub all-is-small : (base first : Counts) (count : ℕ) {c : Counts} → c ≡ summed base nothing first count → Small c
 all-is-small base first count e = summed-is-small base nothing first count (record { few = omega arith; short = omega arith }) e
 
+-- The code subtracts where there is something to subtract from.
 pub one-below : (m : ℕ) → (m ≡ 0 → ⊥) → m - 1 ≡ below m
 one-below zero f = absurd (f refl)
 one-below (suc m) f = omega arith
 
+-- So the first count of copies does not pass the last.
 pub below-within : (m x : ℕ) {k : ℕ} → k ≡ below m → m ≤ x → k ≤ x
 below-within zero x e h = rw e (omega arith)
 below-within (suc m) x e h = rw e (omega arith)
 
+-- 10 and 11 of counts that the code has under another name.
 pub with-limit : (room n : ℕ) {c d : Counts} {r : Walked} → c ≡ d → r ≡ limit room n c → r ≡ limit room n d
 with-limit room n e q = q ∙ rw e refl
 
@@ -141,6 +151,7 @@ module _ (room n : ℕ) (v under : Node) {r : Walked} where
   unfolding unvisited
   over-node-made f g e q w z = pick-no _ (ne-eqb _ _ f) (pick-no _ (ne-eqb _ _ g) (pick-no _ (sym e ∙ q) (z ∙ rw w refl)))
 
+-- A finite [*] but [*0], by its three tests.
 pub repeated-told : (v : Node) {b some : Bool} → some ≡ pick (not (eqb (v .max) 0)) (not (eqb (v .max) unlimited)) false
     → b ≡ pick (eqb (v .kind) 3) some false → b ≡ is-repeated v
 unfolding is-repeated

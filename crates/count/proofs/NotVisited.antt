@@ -1,24 +1,23 @@
 -- The walk at a node whose operands it does not visit is what the code answers there, kind by kind.
 use mathlib.Core.Path.{_≡_, refl, sym, ap, _∙_}
-use mathlib.Core.Bool.{Bool, true, false, not}
+use mathlib.Core.Bool.{Bool, false}
 use mathlib.Core.List.{List, [], _∷_}
-use Prim.Native.Nat.{ℕ, zero, suc, _+_, _*_, _≤_, _<_}
+use Prim.Native.Nat.{ℕ, zero, suc, _≤_, _<_}
 use native.Mathlib.Omega.{arith}
 use native.Mathlib.Decide.{ℕ-discrete}
 use lib.Dec.{eqb, ltb}
-use lib.ListN.{length}
 use borrow.Author.Tests.{eqb-true, eq-eqb, ne-eqb, le-ltb, not-false}
-use Rattle.words.specs.Choice.{pick, pick-case, pick-cong, pick-true, pick-false}
-use Rattle.meaning.specs.Tree.{Max, finite, unbounded, Seq, atom, delay, consec, goto, nonconsec, throughout, within, number, Operand, boolean, other, operand, nodeAt, unlimited, maxOf, treeAt, nodes}
-use Rattle.meaning.specs.Alternative.{SeqAlt, single, over, consec-unbounded, expand}
+use Rattle.words.specs.Choice.{pick, pick-cong, pick-true, pick-false}
+use Rattle.meaning.specs.Tree.{Max, finite, unbounded, Seq, consec, Operand, boolean, other, operand, nodeAt, unlimited, maxOf, treeAt, nodes}
+use Rattle.meaning.specs.Alternative.{SeqAlt, single, over, consec-unbounded}
 use Rattle.meaning.specs.Refusals.{is-bool, limited, deep-enough, is-boolean, over-boolean, walk-in, walk}
 use Rattle.meaning.specs.Lowerable.{WellFormed, FormedTable}
 use Rattle.meaning.specs.declared.Node.{Node}
 use Rattle.meaning.specs.declared.Counts.{Counts}
 use Rattle.meaning.specs.declared.Walked.{Walked}
-use Rattle.meaning.specs.declared.Walked.the-variants.{Counted, Refused}
+use Rattle.meaning.specs.declared.Walked.the-variants.{Refused}
 use Rattle.meaning.specs.declared.SeqTerm.{SeqTerm}
-use Rattle.meaning.specs.declared.SeqTerm.the-variants.{Bool as BoolTerm, Goto, Nonconsec, ConsecAtLeast, Empty}
+use Rattle.meaning.specs.declared.SeqTerm.the-variants.{Bool as BoolTerm, Empty}
 use Rattle.meaning.proofs.Nodes.{at-atom, at-delay, at-consec, at-goto, at-nonconsec, at-throughout, at-within}
 use Rattle.meaning.proofs.Ranges.{by-kind}
 use Rattle.count.specs.Capped.{bool-term, other-term, with-empty}
@@ -29,6 +28,7 @@ use Rattle.count.proofs.Stands.{exact, Stands, limit-stands, other-term
 pub finite-max : (max : ℕ) → (max ≡ unlimited → ⊥) → maxOf max ≡ finite max
 finite-max max f = pick-false _ _ (ne-eqb _ _ f)
 
+-- .. and one that does not.
 pub unbounded-max : (max : ℕ) → max ≡ unlimited → maxOf max ≡ unbounded
 unbounded-max max e = pick-true _ _ (eq-eqb _ _ e)
 
@@ -60,6 +60,7 @@ one-term-stands : (m : ℕ) (x : SeqTerm) → 1 ≤ m → is-bool x ≡ false �
 one-term-stands zero x some e = absurd (omega arith)
 one-term-stands (suc m) x some e = with-empty-stands (suc m) (other-term-stands x e)
 
+-- An atom's one alternative.
 bool-term-stands : (a : ℕ) → Stands bool-term (single (BoolTerm a) ∷ [])
 unfolding pick
 bool-term-stands a = record { numbers = exact refl refl; plainly = refl; guardedly = refl }
@@ -77,10 +78,12 @@ module _ (t : List ℕ) (n room d : ℕ) (S : Countable t n room d) (h : d ≤ 2
   walk-at : {s : Seq} → treeAt t n ≡ s → walk room d (treeAt t n) ≡ walk-in room d s
   walk-at {s} e = rw e (not-too-deep room d s h)
 
+  -- 8.
   at-a-within : nodeAt t n .kind ≡ 7 → walk room d (treeAt t n) ≡ Refused 8 n
   unfolding walk-in
   at-a-within k = walk-at (at-within t n k (w .within-one k) (w .within-two k))
 
+  -- An atom: 10 and 11 of one Bool term.
   at-an-atom : nodeAt t n .kind ≡ 1 → walk room d (treeAt t n) ≡ limit room n bool-term
   unfolding walk-in
   at-an-atom k = walk-at (at-atom t n k) ∙ sym (limit-stands room n (S .rooms) (bool-term-stands _))
@@ -89,6 +92,7 @@ module _ (t : List ℕ) (n room d : ℕ) (S : Countable t n room d) (h : d ≤ 2
   pub consec-at : {x : Max} → nodeAt t n .kind ≡ 3 → maxOf (nodeAt t n .max) ≡ x → treeAt t n ≡ consec n (treeAt t (nodeAt t n .p)) (nodeAt t n .min) x
   consec-at k e = at-consec t n k (w .consec-under k) ∙ ap (consec n (treeAt t (nodeAt t n .p)) (nodeAt t n .min)) e
 
+  -- [*0]: 10 and 11 of one Empty, whatever the operand is.
   at-no-repetition : nodeAt t n .kind ≡ 3 → nodeAt t n .max ≡ 0 → walk room d (treeAt t n) ≡ limit room n other-term
   unfolding walk-in
   at-no-repetition k e =
@@ -102,17 +106,20 @@ module _ (t : List ℕ) (n room d : ℕ) (S : Countable t n room d) (h : d ≤ 2
   over-an-operand f l s =
       over-stands room n _ (operand (treeAt t (nodeAt t n .p))) f _ (S .rooms) s ∙ rw (is-atom t (nodeAt t n .p) (S .formed) (omega (arith, S .inside))) refl
 
+  -- [*m:$], ..
   at-a-run : nodeAt t n .kind ≡ 3 → nodeAt t n .max ≡ unlimited → walk room d (treeAt t n) ≡ over-node room n (nodeAt t n) (nodeAt t (nodeAt t n .p))
   unfolding walk-in
   at-a-run k e =
       walk-at (consec-at k (unbounded-max (nodeAt t n .max) e))
       ∙ over-an-operand (consec-unbounded (nodeAt t n .min)) (w .consec-under k) (λ b. with-empty-stands _ (other-term-stands _ refl))
 
+  -- .. goto ..
   at-a-goto : nodeAt t n .kind ≡ 4 → walk room d (treeAt t n) ≡ over-node room n (nodeAt t n) (nodeAt t (nodeAt t n .p))
   unfolding walk-in
   at-a-goto k =
       walk-at (at-goto t n k (w .goto-under k)) ∙ over-an-operand _ (w .goto-under k) (λ b. one-term-stands _ _ (w .goto-count k) refl)
 
+  -- .. and nonconsecutive.
   at-a-nonconsec : nodeAt t n .kind ≡ 5 → walk room d (treeAt t n) ≡ over-node room n (nodeAt t n) (nodeAt t (nodeAt t n .p))
   unfolding walk-in
   at-a-nonconsec k =
@@ -138,6 +145,7 @@ module _ (t : List ℕ) (n room d : ℕ) (S : Countable t n room d) (h : d ≤ 2
           let z : eqb (nodeAt t n .max) 0 ≡ false = ne-eqb _ _ q in
           at-a-run k (eqb-true _ _ (not-false _ (rw (k, z) at e))) ∙ rw (k, z) refl
 
+-- The same, of words that the code has read.
 pub unvisited-done : (t : List ℕ) (n room d : ℕ) {v : Node} {b : Bool} {r : Walked} → Countable t n room d → d ≤ 256 → v ≡ nodeAt t n
     → (v .kind ≡ 2 → ⊥) → (v .kind ≡ 6 → ⊥) → b ≡ is-repeated v → b ≡ false → r ≡ unvisited room n v (nodeAt t (v .p)) → r ≡ walk room d (treeAt t n)
 unvisited-done t n room d S h w f g e q z = rw w at z ∙ sym (by-words t n room d S h (rw w at f) (rw w at g) (rw w at (sym e ∙ q)))

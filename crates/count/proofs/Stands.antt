@@ -6,18 +6,14 @@ use mathlib.Core.List.{List, [], _∷_, _++_, append-nil, append-assoc}
 use Prim.Native.Nat.{ℕ, zero, suc, _+_, _*_, _-_, _≤_, _<_}
 use native.Mathlib.Nat.{mul-le-mul}
 use native.Mathlib.Omega.{arith}
-use native.Mathlib.Decide.{decLe}
-use lib.Dec.{eqb, ltb}
+use lib.Dec.{ltb}
 use lib.ListN.{length}
 use borrow.Author.Tests.{ltb-true, ltb-false, lt-ltb, ne-eqb}
 use Rattle.words.specs.Choice.{pick, pick-case, pick-cong, pick-true}
-use Rattle.meaning.specs.Tree.{Max, finite, unbounded, below}
-use Rattle.meaning.specs.Match.{UpTo}
+use Rattle.meaning.specs.Tree.{finite, unbounded, below}
 use Rattle.meaning.specs.Alternative.{SeqAlt, single, join-lefts, join-hops, hops, copies, copies-from, with-empty, consec-finite, guard-each}
 use Rattle.meaning.specs.Refusals.{entries, is-bool, plain, guarded, counts, limited}
 use Rattle.meaning.specs.declared.Counts.{Counts}
-use Rattle.meaning.specs.declared.Walked.{Walked}
-use Rattle.meaning.specs.declared.Walked.the-variants.{Counted, Refused}
 use Rattle.meaning.specs.declared.SeqTerm.{SeqTerm}
 use Rattle.meaning.specs.declared.SeqTerm.the-variants.{Empty}
 use Rattle.meaning.specs.declared.SeqHop.the-variants.{Fixed}
@@ -54,6 +50,7 @@ stopped {a} {e} a′ e′ p g same = pick-case Is (ltb 256 a′) (λ q. over sam
     within : Same a e a′ e′ → a′ ≤ 256 → e′ ≤ 65536 → Same a e a′ e′
     within s q z = s
 
+-- .. and leaves the flags as they are.
 capped-flags : (a e : ℕ) (p g : Bool) → (capped a e p g .plain ≡ p) × (capped a e p g .guarded ≡ g)
 unfolding capped
 capped-flags a e p g = pick-case Kept (ltb 256 a) (λ _. (refl, refl)) (λ _. pick-case Kept (ltb 65536 e) (λ _. (refl, refl)) (λ _. (refl, refl)))
@@ -75,6 +72,7 @@ large-left y h some = let m = past h some in omega arith
 large-right : {x z : ℕ} (y : ℕ) → 65536 < x → 1 ≤ z → 65536 < y + z * x
 large-right y h some = let m = past-right some h in omega arith
 
+-- A number that decides as one from 1 on is from 1 on.
 positive : {b f b′ f′ : ℕ} → 1 ≤ b → Same b f b′ f′ → 1 ≤ b′
 positive some (many k k′) = omega arith
 positive some (large i k k′) = omega arith
@@ -125,6 +123,7 @@ capped-stands {alts} {a} {e} {p} {g} same pl gu = record { numbers = stopped a e
     flags : (capped a e p g .plain ≡ p) × (capped a e p g .guarded ≡ g)
     flags = capped-flags a e p g
 
+-- The same decision for numbers that are equal.
 along : {a e b f a′ e′ : ℕ} → a ≡ b → e ≡ f → Same b f a′ e′ → Same a e a′ e′
 along i j s = rw (i, j) s
 
@@ -140,6 +139,7 @@ limit-same room n {a} {e} {p} {g} {c} h (large i k k′) q z =
 limit-same room n {a} {e} {p} {g} {c} h (exact i j) q z =
     let is : c ≡ counts-of a e p g = λ k. counts-of (sym i k) (sym j k) (q k) (z k) in rw is refl
 
+-- .. so that they may be capped ..
 pub limit-capped : (room n a e : ℕ) (p g : Bool) → room ≤ 65536 → limit room n (capped a e p g) ≡ limit room n (counts-of a e p g)
 limit-capped room n a e p g h = limit-same room n h (stopped a e p g (exact refl refl)) (capped-flags a e p g .0) (capped-flags a e p g .1)
 
@@ -171,10 +171,12 @@ sum-stands {l} {r} {xs} {ys} x y =
 nothing-stands : Stands nothing []
 nothing-stands = record { numbers = exact refl refl; plainly = refl; guardedly = refl }
 
+-- One alternative of a term that is no Bool.
 pub other-term-stands : (x : SeqTerm) → is-bool x ≡ false → Stands other-term (single x ∷ [])
 unfolding pick
 other-term-stands x e = record { numbers = exact refl refl; plainly = rw e refl; guardedly = refl }
 
+-- With the Empty of a minimum of 0.
 pub with-empty-stands : (m : ℕ) {c : Counts} {alts : List SeqAlt} → Stands c alts → Stands (empty-counted m c) (with-empty m alts)
 unfolding empty-counted pick
 with-empty-stands zero s = sum-stands (other-term-stands Empty refl) s
@@ -186,6 +188,7 @@ product-numbers : {ls rs : List SeqAlt} (l r : Counts) → Stands l ls → Stand
 unfolding product
 product-numbers l r x y some-l some-r = stopped _ _ _ _ (same-products some-l some-r (x .numbers) (y .numbers))
 
+-- Its flags are joined and not capped.
 product-plain : (l r : Counts) → product l r .plain ≡ pick (l .plain) (r .plain) false
 unfolding product
 product-plain l r = capped-flags _ _ _ _ .0
@@ -194,6 +197,7 @@ product-guarded : (l r : Counts) → product l r .guarded ≡ pick (l .guarded) 
 unfolding product
 product-guarded l r = capped-flags _ _ _ _ .1
 
+-- An operand that is not plain leaves nothing plain.
 never : (p : Bool) → pick p false false ≡ false
 unfolding pick
 never true = refl
@@ -204,11 +208,13 @@ module _ (base : List SeqAlt) (b : Counts) (stands : Stands b base) (some : 1 �
   one-copy-more : (j : ℕ) {x : Counts} → Stands x (copies base j) → Stands (product x b) (copies base (suc j))
   one-copy-more j s = product-stands 1 s stands (some-copies base j some) some led
 
+  -- k copies more ..
   copied-stands : (j k : ℕ) {x : Counts} → Stands x (copies base j) → Stands (copied b x k) (copies base (k + j))
   unfolding copied
   copied-stands j zero s = let e : 0 + j ≡ j = omega arith in rw e s
   copied-stands j (suc k) s = let e : suc k + j ≡ k + suc j = omega arith in rw e (copied-stands (suc j) k (one-copy-more j s))
 
+  -- .. and their sum.
   summed-stands : (j count : ℕ) {total x : Counts} {xs : List SeqAlt} → Stands total xs → Stands x (copies base j)
       → Stands (summed b total x count) (xs ++ copies-from base j count)
   unfolding summed

@@ -1,18 +1,18 @@
 -- The walk at a node from the answers below it, as the recursive code meets them; and what an answer that counts tells: its
 -- counts are small and stand for an expansion that is not empty.
 use mathlib.Core.Path.{_≡_, refl, sym, ap, _∙_}
-use mathlib.Core.Bool.{Bool, true, false, not}
-use mathlib.Core.List.{List, [], _∷_}
-use Prim.Native.Nat.{ℕ, zero, suc, _+_, _*_, _-_, _≤_, _<_}
+use mathlib.Core.Bool.{Bool, true, not}
+use mathlib.Core.List.{List}
+use Prim.Native.Nat.{ℕ, zero, suc, _+_, _*_, _≤_, _<_}
 use native.Mathlib.Omega.{arith}
 use native.Mathlib.Decide.{ℕ-discrete}
 use lib.Dec.{eqb, ltb}
 use lib.ListN.{length}
 use borrow.Author.Tests.{eqb-true, eqb-false, eq-eqb, ne-eqb, lt-ltb, not-true}
-use Rattle.words.specs.Choice.{pick, pick-case, pick-true, pick-false}
-use Rattle.meaning.specs.Tree.{Max, finite, unbounded, Seq, atom, delay, consec, goto, nonconsec, throughout, within, number, operand, nodeAt, unlimited, maxOf, treeOf, treeAt, nodes}
-use Rattle.meaning.specs.Alternative.{SeqAlt, consec-finite, guard-each, expand}
-use Rattle.meaning.specs.Refusals.{entries, plain, counts, limited, and-then, deep-enough, walk-in, walk}
+use Rattle.words.specs.Choice.{pick, pick-case, pick-true}
+use Rattle.meaning.specs.Tree.{finite, unbounded, Seq, atom, delay, consec, goto, nonconsec, throughout, within, number, nodeAt, unlimited, maxOf, treeAt, nodes}
+use Rattle.meaning.specs.Alternative.{consec-finite, guard-each, expand}
+use Rattle.meaning.specs.Refusals.{plain, counts, limited, and-then, deep-enough, walk-in, walk}
 use Rattle.meaning.specs.Lowerable.{WellFormed, FormedTable, Bounded, Walkable}
 use Rattle.meaning.specs.declared.Node.{Node}
 use Rattle.meaning.specs.declared.Counts.{Counts}
@@ -22,11 +22,11 @@ use Rattle.meaning.proofs.Nodes.{at-delay, at-throughout}
 use Rattle.meaning.proofs.Taken.{both-hold}
 use Rattle.meaning.proofs.Ranges.{a-formed-tree-is-ranged}
 use Rattle.meaning.proofs.Walks.{a-walked-tree-is-walkable, the-walk-counts-the-expansion}
-use Rattle.meaning.proofs.Flags.{AllLed, alternatives-are-led, some-alternatives}
-use Rattle.count.specs.Capped.{Small, product, times, not-plain, guarded-each}
+use Rattle.meaning.proofs.Flags.{alternatives-are-led, some-alternatives}
+use Rattle.count.specs.Capped.{Small, guarded-each}
 use Rattle.count.specs.Nodes.{Countable, Unvisited, limit, delay-counts, consec-counts, repeated, covered, is-repeated}
 use Rattle.count.proofs.Stands.{Stands, counts-stand, limit-stands, fixed-stands, at-least-stands, consec-stands, guarded-each-stands}
-use Rattle.count.proofs.NotVisited.{finite-max, unbounded-max, not-too-deep, consec-at}
+use Rattle.count.proofs.NotVisited.{finite-max, not-too-deep, consec-at}
 
 -- 10 and 11 hold of every node that the walk lets pass.
 walkable-is-bounded : (room : ℕ) (s : Seq) → Walkable room s → Bounded room (expand s)
@@ -46,9 +46,11 @@ module _ (room d : ℕ) (s : Seq) {r : Walked} {c : Counts} (e : r ≡ walk room
   answer-counts : c ≡ counts (expand s)
   answer-counts = the-walk-counts-the-expansion room d s c (sym e ∙ q)
 
+  -- They stand for the expansion ..
   pub answer-stands : Stands c (expand s)
   answer-stands = counts-stand answer-counts
 
+  -- .. and are within their bounds.
   pub answer-is-small : room ≤ 65536 → Small c
   unfolding counts
   answer-is-small h =
@@ -61,6 +63,7 @@ pub answer-has-some : (t : List ℕ) (k room d : ℕ) {r : Walked} {c : Counts} 
 answer-has-some t k room d {r} {c} formed inside e q =
     some-alternatives room (treeAt t k) (a-formed-tree-is-ranged t formed k inside) (a-walked-tree-is-walkable room d (treeAt t k) c (sym e ∙ q))
 
+-- A tree has the number of its node.
 number-of : (t : List ℕ) (n : ℕ) → number (treeAt t n) ≡ n
 unfolding treeAt
 number-of t n =
@@ -75,6 +78,7 @@ pub too-deep : (t : List ℕ) (n room d : ℕ) → 256 < d → Refused 4 n ≡ w
 unfolding walk deep-enough
 too-deep t n room d h = sym (pick-true _ _ (lt-ltb _ _ h) ∙ ap (Refused 4) (number-of t n))
 
+-- The node can be read.
 pub node-inside : (t : List ℕ) (n room d : ℕ) → Countable t n room d → n * 5 + 5 ≤ length t
 node-inside t n room d S = omega (arith, S .formed .whole, S .inside)
 
@@ -93,19 +97,23 @@ module _ (t : List ℕ) (n room d : ℕ) (S : Countable t n room d) (h : d ≤ 2
   w : WellFormed n (nodeAt t n)
   w = S .formed .each n (S .inside)
 
+  -- What the walk answers below this node.
   abbrev below-it : ℕ → Walked
   below-it k = walk room (d + 1) (treeAt t k)
 
+  -- Left, then right, then 10 and 11.
   at-a-delay : nodeAt t n .kind ≡ 2
       → walk room d (treeAt t n) ≡ and-then (below-it (nodeAt t n .p)) (and-then (below-it (nodeAt t n .q)) (limited room n (expand (delay n (treeAt t (nodeAt t n .p)) (treeAt t (nodeAt t n .q)) (nodeAt t n .min) (maxOf (nodeAt t n .max))))))
   unfolding walk-in walk
   at-a-delay k = rw (at-delay t n k (w .delay-left k) (w .delay-right k)) (not-too-deep room d _ h)
 
+  -- The operand, then 7, 10 and 11.
   at-a-throughout : nodeAt t n .kind ≡ 6
       → walk room d (treeAt t n) ≡ and-then (below-it (nodeAt t n .q)) (pick (plain (expand (treeAt t (nodeAt t n .q)))) (limited room n (guard-each (nodeAt t n .p) (expand (treeAt t (nodeAt t n .q))))) (Refused 7 n))
   unfolding walk-in walk
   at-a-throughout k = rw (at-throughout t n k (w .throughout-under k)) (not-too-deep room d _ h)
 
+  -- The operand, then 5, 10 and 11.
   at-a-repetition : nodeAt t n .kind ≡ 3 → (nodeAt t n .max ≡ 0 → ⊥) → (nodeAt t n .max ≡ unlimited → ⊥)
       → walk room d (treeAt t n) ≡ and-then (below-it (nodeAt t n .p)) (pick (ltb 256 (nodeAt t n .max)) (Refused 5 n) (limited room n (consec-finite (expand (treeAt t (nodeAt t n .p))) (nodeAt t n .min) (nodeAt t n .max))))
   at-a-repetition k f g =
@@ -113,12 +121,10 @@ module _ (t : List ℕ) (n room d : ℕ) (S : Countable t n room d) (h : d ≤ 2
 
 -- What the node's counts decide, from the answers of its operands.
 module _ (t : List ℕ) (n room d : ℕ) (S : Countable t n room d) (h : d ≤ 256) where
-  abbrev tree-at : ℕ → Seq
-  tree-at k = treeAt t k
-
   lower-inside : (k : ℕ) → k < n → k < nodes t
   lower-inside k l = omega (arith, S .inside)
 
+  -- A delay's 10 and 11.
   delay-decided : (v : Node) → v ≡ nodeAt t n → v .kind ≡ 2 → {x y : Walked} {l r : Counts} → x ≡ walk room (d + 1) (treeAt t (v .p)) → x ≡ Counted l
       → y ≡ walk room (d + 1) (treeAt t (v .q)) → y ≡ Counted r
       → limit room n (delay-counts v l r) ≡ limited room n (expand (delay n (treeAt t (v .p)) (treeAt t (v .q)) (v .min) (maxOf (v .max))))
@@ -137,6 +143,7 @@ module _ (t : List ℕ) (n room d : ℕ) (S : Countable t n room d) (h : d ≤ 2
         | no fixed ↦ rw (ne-eqb (v .max) unlimited fixed) (limit-stands room n (S .rooms) (fixed-stands ls rs l r s q some-l some-r led (v .min) (v .max) (w .delay-range k)))
       ]
 
+  -- A throughout's 7, 10 and 11.
   covered-decided : (v : Node) → v ≡ nodeAt t n → v .kind ≡ 6 → {x : Walked} {s : Counts} → x ≡ walk room (d + 1) (treeAt t (v .q)) → x ≡ Counted s
       → covered room n s ≡ pick (plain (expand (treeAt t (v .q)))) (limited room n (guard-each (v .p) (expand (treeAt t (v .q))))) (Refused 7 n)
   unfolding covered
@@ -147,6 +154,7 @@ module _ (t : List ℕ) (n room d : ℕ) (S : Countable t n room d) (h : d ≤ 2
       ap (λ (b : Bool). pick b (limit room n (guarded-each s)) (Refused 7 n)) (q .plainly)
       ∙ rw (limit-stands room n (S .rooms) (guarded-each-stands (v .p) (expand (treeAt t (v .q))) s q some)) refl
 
+  -- A finite [*]'s 5, 10 and 11.
   repeated-decided : (v : Node) → v ≡ nodeAt t n → v .kind ≡ 3 → (v .max ≡ 0 → ⊥) → {x : Walked} {s : Counts} → x ≡ walk room (d + 1) (treeAt t (v .p)) → x ≡ Counted s
       → repeated room n v s ≡ pick (ltb 256 (v .max)) (Refused 5 n) (limited room n (consec-finite (expand (treeAt t (v .p))) (v .min) (v .max)))
   unfolding repeated consec-counts
@@ -160,26 +168,32 @@ module _ (t : List ℕ) (n room d : ℕ) (S : Countable t n room d) (h : d ≤ 2
 
 -- The returns of the code: v are the node's words, x and y the answers below it.
 module _ {t : List ℕ} {n room d : ℕ} {v : Node} (S : Countable t n room d) (h : d ≤ 256) (w : v ≡ nodeAt t n) where
+  -- The walk at a delay, from the words that were read.
   delay-walk : v .kind ≡ 2 → walk room d (treeAt t n) ≡ and-then (walk room (d + 1) (treeAt t (v .p))) (and-then (walk room (d + 1) (treeAt t (v .q))) (limited room n (expand (delay n (treeAt t (v .p)) (treeAt t (v .q)) (v .min) (maxOf (v .max))))))
   delay-walk k = rw w (at-a-delay t n room d S h (rw w at k))
 
+  -- A refusal of the left operand is the answer ..
   pub left-refused : {number place : ℕ} {x : Walked} → v .kind ≡ 2 → x ≡ walk room (d + 1) (treeAt t (v .p)) → x ≡ Refused number place → x ≡ walk room d (treeAt t n)
   unfolding and-then
   left-refused k e q = q ∙ sym (delay-walk k ∙ rw (sym e ∙ q) refl)
 
+  -- .. then one of the right operand ..
   pub right-refused : {number place : ℕ} {l : Counts} {x y : Walked} → v .kind ≡ 2 → x ≡ walk room (d + 1) (treeAt t (v .p)) → x ≡ Counted l
       → y ≡ walk room (d + 1) (treeAt t (v .q)) → y ≡ Refused number place → y ≡ walk room d (treeAt t n)
   unfolding and-then
   right-refused k e q e′ q′ = q′ ∙ sym (delay-walk k ∙ rw (sym e ∙ q, sym e′ ∙ q′) refl)
 
+  -- .. then the delay's own.
   pub delay-done : {l r : Counts} {x y z : Walked} → v .kind ≡ 2 → x ≡ walk room (d + 1) (treeAt t (v .p)) → x ≡ Counted l
       → y ≡ walk room (d + 1) (treeAt t (v .q)) → y ≡ Counted r → z ≡ limit room n (delay-counts v l r) → z ≡ walk room d (treeAt t n)
   unfolding and-then
   delay-done k e q e′ q′ u = u ∙ delay-decided t n room d S h v w k e q e′ q′ ∙ sym (delay-walk k ∙ rw (sym e ∙ q, sym e′ ∙ q′) refl)
 
+  -- The walk at a throughout, from the words that were read.
   throughout-walk : v .kind ≡ 6 → walk room d (treeAt t n) ≡ and-then (walk room (d + 1) (treeAt t (v .q))) (pick (plain (expand (treeAt t (v .q)))) (limited room n (guard-each (v .p) (expand (treeAt t (v .q))))) (Refused 7 n))
   throughout-walk k = rw w (at-a-throughout t n room d S h (rw w at k))
 
+  -- A refusal of its operand is the answer, then its own.
   pub covered-operand-refused : {number place : ℕ} {x : Walked} → v .kind ≡ 6 → x ≡ walk room (d + 1) (treeAt t (v .q)) → x ≡ Refused number place → x ≡ walk room d (treeAt t n)
   unfolding and-then
   covered-operand-refused k e q = q ∙ sym (throughout-walk k ∙ rw (sym e ∙ q) refl)
@@ -193,17 +207,20 @@ module _ {t : List ℕ} {n room d : ℕ} {v : Node} (S : Countable t n room d) (
   unfolding is-repeated
   repeated-kind e q = eqb-true _ _ (both-hold (eqb (v .kind) 3) (sym e ∙ q) .0)
 
+  -- Its range ends, and not at 0.
   repeated-max : {b : Bool} → b ≡ is-repeated v → b ≡ true → (v .max ≡ 0 → ⊥) × (v .max ≡ unlimited → ⊥)
   unfolding is-repeated
   repeated-max e q =
       let (some, ends) = both-hold (not (eqb (v .max) 0)) (both-hold (eqb (v .kind) 3) (sym e ∙ q) .1) in
       (eqb-false (v .max) 0 (not-true _ some), eqb-false (v .max) unlimited (not-true _ ends))
 
+  -- The walk at such a [*], from the words that were read.
   repetition-walk : {b : Bool} → b ≡ is-repeated v → b ≡ true
       → walk room d (treeAt t n) ≡ and-then (walk room (d + 1) (treeAt t (v .p))) (pick (ltb 256 (v .max)) (Refused 5 n) (limited room n (consec-finite (expand (treeAt t (v .p))) (v .min) (v .max))))
   repetition-walk e q =
       let (some, ends) = repeated-max e q in rw w (at-a-repetition t n room d S h (rw w at (repeated-kind e q)) (rw w at some) (rw w at ends))
 
+  -- A refusal of its operand is the answer, then its own.
   pub repeated-operand-refused : {number place : ℕ} {b : Bool} {x : Walked} → b ≡ is-repeated v → b ≡ true → x ≡ walk room (d + 1) (treeAt t (v .p)) → x ≡ Refused number place
       → x ≡ walk room d (treeAt t n)
   unfolding and-then
@@ -219,6 +236,7 @@ module _ {t : List ℕ} {n room d : ℕ} {v : Node} (S : Countable t n room d) (
   words : WellFormed n v
   words = rw w (S .formed .each n (S .inside))
 
+  -- The operands may be visited: they are lower; u is the measure at entry ..
   pub left-lower : {u : ℕ} → n ≡ u → v .kind ≡ 2 → v .p < u
   left-lower e k = omega (arith, words .delay-left k)
 
@@ -231,6 +249,7 @@ module _ {t : List ℕ} {n room d : ℕ} {v : Node} (S : Countable t n room d) (
   pub repeated-lower : {u : ℕ} {b : Bool} → n ≡ u → b ≡ is-repeated v → b ≡ true → v .p < u
   repeated-lower e p q = omega (arith, words .consec-under (repeated-kind p q))
 
+  -- .. and one deeper, which 4 will look at.
   lower-countable : (k : ℕ) → k < n → Countable t k room (d + 1)
   lower-countable k l = record { formed = S .formed; inside = omega (arith, S .inside); rooms = S .rooms; deep = omega arith }
 
@@ -246,11 +265,18 @@ module _ {t : List ℕ} {n room d : ℕ} {v : Node} (S : Countable t n room d) (
   pub repeated-countable : {b : Bool} → b ≡ is-repeated v → b ≡ true → Countable t (v .p) room (d + 1)
   repeated-countable p q = lower-countable _ (words .consec-under (repeated-kind p q))
 
+  -- The ranges are in order, so that what the code subtracts is there.
   pub delay-ranged : v .kind ≡ 2 → v .min ≤ v .max
   delay-ranged k = words .delay-range k
 
   pub repeated-ranged : {b : Bool} → b ≡ is-repeated v → b ≡ true → v .min ≤ v .max
   repeated-ranged p q = words .consec-range (repeated-kind p q)
 
+  -- What is left for the kinds whose operand is not visited.
   pub not-visited : (v .kind ≡ 2 → ⊥) → (v .kind ≡ 6 → ⊥) → Unvisited t n v
   not-visited f g = record { formed = S .formed; inside = S .inside; words = w; no-delay = f; no-throughout = g }
+
+-- For the operand of any kind that is visited.
+pub ruleset operand-lower = (left-lower, right-lower, covered-lower, repeated-lower)
+
+pub ruleset operand-countable = (left-countable, right-countable, covered-countable, repeated-countable)

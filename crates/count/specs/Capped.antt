@@ -7,6 +7,7 @@ use lib.Dec.{eqb, ltb}
 use Rattle.words.specs.Choice.{pick}
 use Rattle.meaning.specs.declared.Counts.{Counts}
 
+-- Counts by their four parts.
 abbrev pub counts-of : ℕ → ℕ → Bool → Bool → Counts
 counts-of alternatives entries plain guarded = record { alternatives = alternatives; entries = entries; plain = plain; guarded = guarded }
 

@@ -2,9 +2,9 @@
 -- every alternative begins with a fixed hop, which a join replaces; and that a tree which the walk lets pass has an alternative.
 use mathlib.Core.Bool.{Bool, true, false, not}
 use mathlib.Core.Path.{_≡_, refl, sym, ap, _∙_}
-use mathlib.Core.Logic.{_⊎_, inl, inr}
+use mathlib.Core.Logic.{inl, inr}
 use mathlib.Core.List.{List, [], _∷_, _++_}
-use Prim.Native.Nat.{ℕ, zero, suc, _+_, _*_, _-_, _≤_}
+use Prim.Native.Nat.{ℕ, zero, suc, _*_, _-_, _≤_}
 use native.Mathlib.Nat.{mul-le-mul}
 use native.Mathlib.Omega.{arith}
 use lib.ListN.{length, length-append}
@@ -28,6 +28,7 @@ both p q = pick p q false
 abbrev pub either : Bool → Bool → Bool
 either p q = pick p true q
 
+-- Laws of the two, by cases.
 both-same : (p : Bool) → both p p ≡ p
 unfolding pick
 both-same true = refl
@@ -66,6 +67,7 @@ abbrev every : (SeqAlt → Bool) → List SeqAlt → Bool
 every f [] = true
 every f (y ∷ ys) = both (f y) (every f ys)
 
+-- Of two lists, one after the other.
 every-append : (f : SeqAlt → Bool) (xs ys : List SeqAlt) → every f (xs ++ ys) ≡ both (every f xs) (every f ys)
 unfolding pick
 every-append f [] ys = refl
@@ -116,6 +118,7 @@ abbrev pub AllLed : List SeqAlt → Type 0
 AllLed [] = Unit {0}
 AllLed (y ∷ ys) = Led (y .steps) × AllLed ys
 
+-- What begins so goes on beginning so, whatever is appended: each construction of alternatives keeps it.
 led-append : (ss rs : List SeqStep) → Led ss → Led (ss ++ rs)
 led-append [] rs l = absurd l
 led-append (s ∷ ss) rs l = l
@@ -157,6 +160,7 @@ all-led-guards : (c : ℕ) (alts : List SeqAlt) → AllLed alts → AllLed (guar
 all-led-guards c [] p = tt
 all-led-guards c (y ∷ ys) p = (p .0, all-led-guards c ys (p .1))
 
+-- So it is with every alternative of every tree.
 pub alternatives-are-led : (s : Seq) → AllLed (expand s)
 alternatives-are-led (atom n a) = (refl, tt)
 alternatives-are-led (delay n l r m x) = all-led-hops (hops m x) (expand l) (expand r) (alternatives-are-led l)
@@ -177,6 +181,7 @@ plain-every : (alts : List SeqAlt) → plain alts ≡ every is-plain alts
 plain-every [] = refl
 plain-every (y ∷ ys) = rw (plain-every ys) refl
 
+-- .. is one of both parts of its steps ..
 plain-steps-append : (ss rs : List SeqStep) → plain-steps (ss ++ rs) ≡ both (plain-steps ss) (plain-steps rs)
 unfolding pick
 plain-steps-append [] rs = refl
@@ -219,6 +224,7 @@ guarded-every (y ∷ ys) = by (has-guard (y .guard)) (guarded-every ys)
     by true e = refl
     by false e = e
 
+-- A joined guard is one where either part has one.
 and-guards : (g g′ : Guard) → not (has-guard (and-opt g g′)) ≡ both (not (has-guard g)) (not (has-guard g′))
 unfolding pick
 and-guards unguarded g′ = refl
@@ -229,15 +235,18 @@ unguarded-joins : (h : SeqHop) (rs : List SeqAlt) → Joins is-unguarded is-ungu
 unguarded-joins h [] = tt
 unguarded-joins h (r ∷ rs) = (λ l. and-guards (l .guard) (r .guard), unguarded-joins h rs)
 
+-- The same, said of guarded.
 unguarded-either : (p q : Bool) → not (both p q) ≡ either (not p) (not q)
 unfolding pick
 unguarded-either true q = refl
 unguarded-either false q = refl
 
+-- A range in order has a hop.
 some-hops : (m : ℕ) (x : Max) → UpTo m x → 1 ≤ length (hops m x)
 some-hops m (finite x) range = omega (arith, length-fixed-from m (suc x - m))
 some-hops m unbounded range = omega arith
 
+-- One list after another.
 pub plain-append : (xs ys : List SeqAlt) → plain (xs ++ ys) ≡ both (plain xs) (plain ys)
 plain-append xs ys = plain-every (xs ++ ys) ∙ every-append is-plain xs ys ∙ rw (plain-every xs, plain-every ys) refl
 
@@ -259,6 +268,7 @@ module _ (ls rs : List SeqAlt) (some-l : 1 ≤ length ls) (some-r : 1 ≤ length
       plain-every (join-lefts (Fixed d) ls rs) ∙ every-lefts is-plain is-plain (Fixed d) ls rs some-l some-r (plain-fixed d rs led)
       ∙ rw (plain-every ls, plain-every rs) refl
 
+  -- What is unguarded where both are, is guarded where either is.
   guarded-joins : (alts : List SeqAlt) → every is-unguarded alts ≡ both (every is-unguarded ls) (every is-unguarded rs) → guarded alts ≡ either (guarded ls) (guarded rs)
   guarded-joins alts e =
       guarded-every alts ∙ ap not e ∙ unguarded-either (every is-unguarded ls) (every is-unguarded rs) ∙ rw (guarded-every ls, guarded-every rs) refl
@@ -283,6 +293,7 @@ module _ (ls rs : List SeqAlt) (some-l : 1 ≤ length ls) (some-r : 1 ≤ length
       fixed-hops d (suc count) h (inl e) = rw e (plain-fixed d rs led)
       fixed-hops d (suc count) h (inr i) = fixed-hops (suc d) count h i
 
+  -- .. but the one of an "at least" delay.
   pub at-least-is-not-plain : (m : ℕ) → AllLed rs → plain (join-hops (hops m unbounded) ls rs) ≡ false
   at-least-is-not-plain m led =
       plain-every (join-hops (hops m unbounded) ls rs)
@@ -326,6 +337,7 @@ some-over : (x : Operand) (f : ℕ → List SeqAlt) → IsBoolean x → ((b : �
 some-over (boolean b) f is some = some b
 some-over other f is some = absurd is
 
+-- A range in order leaves a count of copies.
 below-is-low : (m x : ℕ) → m ≤ suc x → 1 ≤ suc x - below m
 below-is-low zero x h = omega arith
 below-is-low (suc m) x h = omega arith

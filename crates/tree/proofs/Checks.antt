@@ -2,24 +2,26 @@
 use mathlib.Core.Path.{_≡_, refl, sym, _∙_}
 use mathlib.Core.Bool.{Bool, true, false}
 use mathlib.Core.List.{List}
-use Prim.Native.Nat.{ℕ, zero, suc, _+_, _-_, _*_, _/_, _%_, _<_, _≤_}
+use Prim.Native.Nat.{ℕ, zero, suc, _+_, _-_, _%_, _<_, _≤_}
 use native.Mathlib.Omega.{arith}
 use lib.Dec.{eqb, ltb}
-use lib.ListN.{length, getD, replicate, length-replicate, getD-replicate}
+use lib.ListN.{length, replicate, length-replicate, getD-replicate}
 use borrow.Author.Tests.{eqb-true, ltb-true, ne-eqb, le-ltb, eq-eqb}
 use Rattle.words.specs.Choice.{pick, pick-case, pick-true, pick-false}
 use Rattle.meaning.specs.Tree.{nodeAt, nodes, below}
-use Rattle.meaning.specs.Refusals.{lowest-failing, formed-node, uses-p, uses-q, used-once, table}
+use Rattle.meaning.specs.Refusals.{lowest-failing, formed-node, used-once, table}
+use Rattle.meaning.specs.Lowerable.{FormedTable}
 use Rattle.meaning.specs.declared.Node.{Node}
 use Rattle.meaning.specs.declared.Table.{Table}
 use Rattle.meaning.specs.declared.Table.the-variants.{Formed, Refused as Misformed}
 use Rattle.meaning.proofs.Taken.{false-is-not-true, both-hold}
-use Rattle.meaning.proofs.Formed.{each-passes}
+use Rattle.meaning.proofs.Formed.{each-passes, a-formed-table}
 use Rattle.tree.specs.Checks.{formed-at, ranged-at, counted-once, AllFormed}
 use Rattle.tree.specs.Uses.{used-by, OperandsWithin, AllOperandsWithin}
 use Rattle.tree.proofs.Lowest.{then-follows, refused-first, same-lowest}
 use Rattle.tree.proofs.Uses.{once-counted}
 
+-- The tests of two operands, whatever follows them.
 both-lower : (n : ℕ) (v : Node) (x : Bool) → pick (ltb (v .p) n) (pick (ltb (v .q) n) x false) false ≡ true → (v .p < n) × (v .q < n)
 both-lower n v x e =
     let (p, more) = both-hold (ltb (v .p) n) e in (ltb-true _ _ p, ltb-true _ _ (both-hold (ltb (v .q) n) more .0))
@@ -79,23 +81,33 @@ module _ (t : List ℕ) (fives : length t % 5 ≡ 0) (some : length t ≡ 0 → 
   abbrev formed : Table → Table
   formed then = lowest-failing 1 (formed-at t) (nodes t) 0 then
 
+  -- Past the length, the three searches are left.
   whole : table t ≡ formed (once ranges)
   unfolding table
   whole = pick-true _ _ (eq-eqb _ _ fives) ∙ pick-false _ _ (ne-eqb _ _ some) ∙ pick-false _ _ (le-ltb _ _ few)
 
+  -- 1 refuses ..
   pub unformed-refused : {r : Table} {number place : ℕ} → r ≡ lowest-failing 1 (formed-at t) (nodes t) 0 Formed → r ≡ Misformed number place → r ≡ table t
   unformed-refused e q = q ∙ sym (whole ∙ refused-first 1 (formed-at t) (once ranges) (nodes t) 0 (sym e ∙ q))
 
+  -- .. or lets pass, and 2 can count the uses.
   pub all-formed : {r : Table} → r ≡ lowest-failing 1 (formed-at t) (nodes t) 0 Formed → r ≡ Formed → AllFormed t (nodes t)
   all-formed e q = record { whole = refl; inside = omega arith; some = omega (arith, positive (length t) some); few = omega arith; formed = sym e ∙ q }
 
+  -- Then 2 and 3 are left.
   passed-1 : {r : Table} → r ≡ formed Formed → r ≡ Formed → table t ≡ once ranges
   passed-1 e q = whole ∙ then-follows 1 (formed-at t) (once ranges) (nodes t) 0 (sym e ∙ q)
 
+  -- 2 refuses ..
   pub misused-refused : {f r : Table} {number place : ℕ} → f ≡ lowest-failing 1 (formed-at t) (nodes t) 0 Formed → f ≡ Formed
       → r ≡ lowest-failing 2 (used-once t) (below (nodes t)) 0 Formed → r ≡ Misformed number place → r ≡ table t
   misused-refused e₁ q₁ e₂ q₂ = q₂ ∙ sym (passed-1 e₁ q₁ ∙ refused-first 2 (used-once t) ranges (below (nodes t)) 0 (sym e₂ ∙ q₂))
 
+  -- .. or lets pass, and 3 is the answer.
   pub ranges-left : {f o r : Table} → f ≡ lowest-failing 1 (formed-at t) (nodes t) 0 Formed → f ≡ Formed
       → o ≡ lowest-failing 2 (used-once t) (below (nodes t)) 0 Formed → o ≡ Formed → r ≡ lowest-failing 3 (ranged-at t) (nodes t) 0 Formed → r ≡ table t
   ranges-left e₁ q₁ e₂ q₂ e₃ = e₃ ∙ sym (passed-1 e₁ q₁ ∙ then-follows 2 (used-once t) ranges (below (nodes t)) 0 (sym e₂ ∙ q₂))
+
+-- What a caller has of a table that passed.
+pub a-checked-table-is-formed : (t : List ℕ) {r : Table} → r ≡ table t → r ≡ Formed → FormedTable t
+a-checked-table-is-formed t e q = a-formed-table t (sym e ∙ q)

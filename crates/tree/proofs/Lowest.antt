@@ -10,6 +10,7 @@ use Rattle.meaning.specs.declared.Table.{Table}
 use Rattle.meaning.specs.declared.Table.the-variants.{Formed, Refused as Misformed}
 use Rattle.meaning.proofs.Taken.{first-taken}
 
+-- A refusal is another answer than none.
 misformed-is-not-formed : {refusal place : ℕ} → Misformed refusal place ≡ Formed → ⊥
 misformed-is-not-formed e = let z : _≡_ {A = ℕ} 0 1 = cc in omega arith
 
@@ -18,6 +19,7 @@ pub record Looking (refusal : ℕ) (test : ℕ → Bool) (count n : ℕ) : Type 
   pub turn : n ≤ count
   pub rest : lowest-failing refusal test count 0 Formed ≡ lowest-failing refusal test (count - n) n Formed
 
+-- At first all nodes are to be looked at ..
 pub looking-begins : (refusal : ℕ) (test : ℕ → Bool) (count : ℕ) → Looking refusal test count 0
 looking-begins refusal test count = record { turn = omega arith; rest = let e : count - 0 ≡ count = omega arith in rw e refl }
 
@@ -26,12 +28,15 @@ module _ {refusal : ℕ} {test : ℕ → Bool} {count n : ℕ} {b : Bool} (g : L
   unfolding lowest-failing
   this-node = let m : count - n ≡ suc (count - (n + 1)) = omega arith in g .rest ∙ rw (m, e) refl
 
+  -- .. a node that fails is the lowest ..
   pub fails-here : not b ≡ true → Misformed refusal n ≡ lowest-failing refusal test count 0 Formed
   fails-here p = sym (this-node ∙ pick-false _ _ (not-true b p))
 
+  -- .. one that passes is left behind ..
   pub looking-on : not b ≡ false → Looking refusal test count (n + 1)
   looking-on p = record { turn = omega arith; rest = this-node ∙ pick-true _ _ (not-false b p) }
 
+-- .. and at the end none has failed.
 pub none-fails : {refusal : ℕ} {test : ℕ → Bool} {count n : ℕ} → Looking refusal test count n → count ≤ n
     → Formed ≡ lowest-failing refusal test count 0 Formed
 unfolding lowest-failing
@@ -45,6 +50,7 @@ then-follows refusal test then zero n e = refl
 then-follows refusal test then (suc count) n e =
     let (passes, more) = first-taken (test n) misformed-is-not-formed e in pick-true _ _ passes ∙ then-follows refusal test then count (n + 1) more
 
+-- A refusal behind a test stays where the other branch keeps it.
 refused-here : {x x′ r : Table} (y : Table) (b : Bool) → (x ≡ r → x′ ≡ r) → pick b x y ≡ r → pick b x′ y ≡ r
 unfolding pick
 refused-here y true f e = f e

@@ -1,7 +1,7 @@
 -- Refusal 1 at a node, kind by kind, from the tests that the code makes there. Assumes nothing.
 use mathlib.Core.Path.{_≡_, refl, _∙_}
-use mathlib.Core.Bool.{Bool, true, false}
-use Prim.Native.Nat.{ℕ, _<_, _≤_}
+use mathlib.Core.Bool.{Bool, false}
+use Prim.Native.Nat.{ℕ, _≤_}
 use native.Mathlib.Omega.{arith}
 use lib.Dec.{eqb, ltb}
 use borrow.Author.Tests.{ne-eqb, le-ltb}
@@ -16,6 +16,7 @@ module _ (n : ℕ) (v : Node) {all some last : Bool} where
   unfolding formed-node pick
   formed-atom k e₃ e₂ e₁ = e₁ ∙ rw (e₂, e₃, k) refl
 
+  -- A throughout, and a within, whose min and max are unused.
   pub formed-throughout : v .kind ≡ 6 → last ≡ pick (eqb (v .min) 0) (eqb (v .max) 0) false → some ≡ pick (ltb (v .q) n) last false
       → all ≡ pick (ltb (v .p) 65536) some false → all ≡ formed-node n v
   unfolding formed-node pick

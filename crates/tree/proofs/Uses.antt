@@ -1,9 +1,9 @@
 -- The list that counts all nodes' uses in one pass holds for each node what 01's count of its uses comes to, up to 2: so
 -- that it is 1 where the node is used once.
-use mathlib.Core.Path.{_≡_, refl, sym, ap, _∙_}
+use mathlib.Core.Path.{_≡_, refl, sym, _∙_}
 use mathlib.Core.Bool.{Bool, true, false, not}
 use mathlib.Core.List.{List}
-use Prim.Native.Nat.{ℕ, zero, suc, _+_, _*_, _<_, _≤_}
+use Prim.Native.Nat.{ℕ, zero, suc, _+_, _<_, _≤_}
 use native.Mathlib.Omega.{arith}
 use native.Mathlib.Numerals.{add-one}
 use native.Mathlib.Decide.{ℕ-discrete}
@@ -34,6 +34,7 @@ module _ (used : List ℕ) (operand : Bool) (k : ℕ) where
   pub operand-within : not operand ≡ false → (operand ≡ true → k < length used) → k < length used
   operand-within e h = h (not-false operand e)
 
+-- The list keeps its length.
 pub length-use-if : (used : List ℕ) (operand : Bool) (k : ℕ) → length (use-if used operand k) ≡ length used
 unfolding use-if
 length-use-if used operand k =
@@ -47,6 +48,7 @@ up-to-2 zero = 0
 up-to-2 (suc zero) = 1
 up-to-2 (suc (suc n)) = 2
 
+-- One more of it.
 one-more : (u : ℕ) → pick (leb 2 (up-to-2 u)) (up-to-2 u) (up-to-2 u + 1) ≡ up-to-2 (suc u)
 unfolding pick
 one-more zero = refl
@@ -71,6 +73,7 @@ other-node-used : (used : List ℕ) (j k : ℕ) → (k ≡ j → ⊥) → getD (
 other-node-used used j k other =
     pick-case (λ (l : List ℕ). getD l k 0 ≡ getD used k 0) (leb 2 (getD used j 0)) (λ e. refl) (λ e. getD-set-other used j k _ 0 other)
 
+-- .. so that each use adds what 01's count adds ..
 use-if-counts : (used : List ℕ) (operand : Bool) (j k u : ℕ) → (operand ≡ true → j < length used) → getD used k 0 ≡ up-to-2 u
     → getD (use-if used operand j) k 0 ≡ up-to-2 (u + pick operand (pick (eqb j k) 1 0) 0)
 unfolding use-if pick
@@ -81,6 +84,7 @@ use-if-counts used true j k u within is = by (ℕ-discrete j k)
     by (yes same) = let n : u + 1 ≡ suc u = omega arith in rw (← same, eq-eqb j j refl, n) (this-node-used used j u (within refl) (rw same is))
     by (no other) = let n : u + 0 ≡ u = omega arith in rw (ne-eqb j k other, n) (other-node-used used j k (λ e. other (sym e)) ∙ is)
 
+-- .. and each node its two.
 use-operands-counts : (used : List ℕ) (v : Node) (k u : ℕ) → OperandsWithin (length used) v → getD used k 0 ≡ up-to-2 u
     → getD (use-operands used v) k 0 ≡ up-to-2 (u + uses-in k v)
 unfolding use-operands uses-in
@@ -132,6 +136,7 @@ pub record UsingNodes (t used₀ used : List ℕ) (count n : ℕ) : Type 0 where
   pub long : length used ≡ length used₀
   pub holds : used ≡ used-by t n used₀
 
+-- At first no node is counted ..
 pub using-begins : (t used : List ℕ) (count : ℕ) → UsingNodes t used used count 0
 unfolding used-by
 using-begins t used count = record { turn = omega arith; long = refl; holds = refl }
@@ -145,8 +150,10 @@ module _ {t used₀ used : List ℕ} {count n : ℕ} {v : Node} (g : UsingNodes 
     holds = rw (add-one n, ← g .holds, ← w) e;
   }
 
+  -- The next node's operands have a place in the list.
   pub using-within : AllOperandsWithin (length used₀) t count → OperandsWithin (length used) v
   using-within within = rw (g .long, w) (within .each n h)
 
+-- .. and at the end all are.
 pub using-ends : {t used₀ used : List ℕ} {count n : ℕ} → UsingNodes t used₀ used count n → count ≤ n → used ≡ used-by t count used₀
 using-ends {count = count} {n = n} g h = let e : count ≡ n = omega (arith, g .turn) in rw e (g .holds)

@@ -1,6 +1,6 @@
 -- The uses of all nodes at once, in one pass over the table: a list with a number for each node, which stops at 2.
 -- Example: of `a ##1 b`, nodes 0, 1 and 2, it begins 1 ∷ 1 ∷ 0. 2 stands for every number above 1: 01's refusal 2 asks for 1.
-use mathlib.Core.Bool.{Bool, true, false}
+use mathlib.Core.Bool.{Bool, true}
 use mathlib.Core.Path.{_≡_}
 use mathlib.Core.List.{List}
 use Prim.Native.Nat.{ℕ, zero, suc, _+_, _*_, _≤_, _<_}

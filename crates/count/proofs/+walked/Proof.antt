@@ -1,7 +1,7 @@
 -- The recursion on the node number: each return is the walk's answer from the answers below the node.
 use borrow.Author.Needs.{needs}
 use Rattle.count.proofs.NotVisited.{unvisited-done}
-use Rattle.count.proofs.Walking.{answer-is-small, too-deep, node-inside, node-few, left-lower, left-countable, left-refused, right-lower, right-countable, right-refused, delay-ranged, delay-done, covered-lower, covered-countable, covered-operand-refused, covered-done, repeated-lower, repeated-countable, repeated-operand-refused, repeated-ranged, repeated-done, not-visited}
+use Rattle.count.proofs.Walking.{answer-is-small, too-deep, node-inside, node-few, operand-lower, operand-countable, left-refused, right-refused, delay-ranged, delay-done, covered-operand-refused, covered-done, repeated-operand-refused, repeated-ranged, repeated-done, not-visited}
 use Prim.Native.Nat.{ℕ, _<_}
 use borrow.Fn.Kinds.{In}
 use borrow.Fn.PlainCycle.{Measures, is, falls, and}
@@ -43,7 +43,7 @@ walked-add-walked t c = search needs
 
 -- src/lib.rt:296:13
 walked-walked-requires : (t : ℕ) → walked-lts.Need-walked-requires (callees t) (walked-at t) walked.Post
-walked-walked-requires t c κs = (search left-lower, search left-countable)
+walked-walked-requires t c κs = (search operand-lower, search operand-countable)
 
 -- src/lib.rt:297:38
 walked-enum-known-left : (t : ℕ) → walked-lts.Need-enum-known-left (callees t) (walked-at t) walked.Post
@@ -63,7 +63,7 @@ walked-add-walked-2 t c = search needs
 
 -- src/lib.rt:300:13
 walked-walked-requires-2 : (t : ℕ) → walked-lts.Need-walked-requires-2 (callees t) (walked-at t) walked.Post
-walked-walked-requires-2 t c κs = (search right-lower, search right-countable)
+walked-walked-requires-2 t c κs = (search operand-lower, search operand-countable)
 
 -- src/lib.rt:301:38
 walked-enum-known-right : (t : ℕ) → walked-lts.Need-enum-known-right (callees t) (walked-at t) walked.Post
@@ -91,7 +91,7 @@ walked-add-walked-3 t c = search needs
 
 -- src/lib.rt:307:13
 walked-walked-requires-3 : (t : ℕ) → walked-lts.Need-walked-requires-3 (callees t) (walked-at t) walked.Post
-walked-walked-requires-3 t c κs = (search covered-lower, search covered-countable)
+walked-walked-requires-3 t c κs = (search operand-lower, search operand-countable)
 
 -- src/lib.rt:308:38
 walked-enum-known-under : (t : ℕ) → walked-lts.Need-enum-known-under (callees t) (walked-at t) walked.Post
@@ -123,7 +123,7 @@ walked-add-walked-4 t c = search needs
 
 -- src/lib.rt:314:13
 walked-walked-requires-4 : (t : ℕ) → walked-lts.Need-walked-requires-4 (callees t) (walked-at t) walked.Post
-walked-walked-requires-4 t c κs = (search repeated-lower, search repeated-countable)
+walked-walked-requires-4 t c κs = (search operand-lower, search operand-countable)
 
 -- src/lib.rt:315:38
 walked-enum-known-under-2 : (t : ℕ) → walked-lts.Need-enum-known-under-2 (callees t) (walked-at t) walked.Post

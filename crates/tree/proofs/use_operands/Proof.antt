@@ -1,5 +1,4 @@
 -- The two uses, one after the other, are those of the node.
-use Rattle.tree.specs.Uses.{use-operands}
 use Rattle.tree.proofs.Uses.{left-within, right-within, used-both}
 use borrow.Author.Needs.{needs}
 use Rattle.tree.proofs.use_operands.Statement.{statement}

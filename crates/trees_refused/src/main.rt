@@ -1,298 +1,26 @@
-// Trees whose answer is decided before an alternative is looked at: for each refusal from 1 to 11 the number and the place,
-// and 01's limits on both sides. One line a tree: the tree, then `refused`, number and place, or `counted`, alternatives and
-// entries. The file `stdout` holds what 01 says of each.
+// Trees that the walk refuses, with 4 to 11, and 01's limits on both sides: the number and the place. The file `stdout` holds what 01
+// says of each.
 ghost use Prim.Native.Nat.{_≤_};
-
-// Work that gives the largest room, 65,536 entries.
-const LARGE: usize = 1048576;
-
-// The five words of a node, and below each kind's own; operands are node numbers.
-fn node(kind: u32, p: u32, q: u32, min: u32, max: u32) -> meaning::Node {
-    meaning::Node {
-        kind: kind,
-        p: p,
-        q: q,
-        min: min,
-        max: max,
-    }
-}
-
-// a, b, c and a ##1 b, the latter over nodes 0 and 1.
-const A: meaning::Node = meaning::Node {
-    kind: 1,
-    p: 0,
-    q: 0,
-    min: 0,
-    max: 0,
-};
-
-const B: meaning::Node = meaning::Node {
-    kind: 1,
-    p: 1,
-    q: 0,
-    min: 0,
-    max: 0,
-};
-
-const C: meaning::Node = meaning::Node {
-    kind: 1,
-    p: 2,
-    q: 0,
-    min: 0,
-    max: 0,
-};
-
-const A_THEN_B: meaning::Node = meaning::Node {
-    kind: 2,
-    p: 0,
-    q: 1,
-    min: 1,
-    max: 1,
-};
-
-fn delay(left: u32, right: u32, min: u32, max: u32) -> meaning::Node {
-    node(2, left, right, min, max)
-}
-
-fn consec(under: u32, min: u32, max: u32) -> meaning::Node {
-    node(3, under, 0, min, max)
-}
-
-fn goto(under: u32, count: u32) -> meaning::Node {
-    node(4, under, 0, count, count)
-}
-
-fn nonconsec(under: u32, count: u32) -> meaning::Node {
-    node(5, under, 0, count, count)
-}
-
-fn throughout(condition: u32, under: u32) -> meaning::Node {
-    node(6, condition, under, 0, 0)
-}
-
-fn within(seq1: u32, seq2: u32) -> meaning::Node {
-    node(7, seq1, seq2, 0, 0)
-}
-
-// What became of the tree, and two numbers.
-fn say(outcome: &[u8], a: u32, b: u32) {
-    io::write_all(1, outcome);
-    io::print_decimal(1, a as u64);
-    io::write_all(1, b" ");
-    io::print_decimal(1, b as u64);
-    io::write_all(1, b"\n");
-}
-
-// The number and the place of a table that was refused.
-fn refuse(table: meaning::Table) {
-    let meaning::Table::Refused(number, place) = table else {
-        return;
-    };
-    say(b": refused ", number, place);
-}
-
-// The tree's name, and the answer of the table's checks, or then that of the walk.
-fn show(name: &[u8], work: usize, t: &[u32]) {
-    io::write_all(1, name);
-    let table = tree::checked(t);
-    let meaning::Table::Formed = table else {
-        refuse(table);
-        return;
-    };
-    match count::walked_root(t, work) {
-        meaning::Walked::Refused(number, place) => say(b": refused ", number, place),
-        meaning::Walked::Counted(c) => say(b": counted ", c.alternatives, c.entries),
-    }
-}
-
-// Puts the words of node n, if the table has it.
-fn put(t: &mut [u32], n: u32, v: meaning::Node) {
-    let i = n as usize * 5;
-    if t.len() < i + 5 {
-        return;
-    }
-    let p = words::put(t, i, v.kind);
-    let q = words::put(t, p, v.p);
-    let min = words::put(t, q, v.q);
-    let max = words::put(t, min, v.min);
-    words::put(t, max, v.max);
-}
-
-// A tree of so many nodes, the last of them the root.
-fn two(name: &[u8], work: usize, a: meaning::Node, b: meaning::Node) {
-    let mut t = [0u32; 10];
-    put(&mut t, 0, a);
-    put(&mut t, 1, b);
-    show(name, work, &t);
-}
-
-fn three(name: &[u8], work: usize, a: meaning::Node, b: meaning::Node, c: meaning::Node) {
-    let mut t = [0u32; 15];
-    put(&mut t, 0, a);
-    put(&mut t, 1, b);
-    put(&mut t, 2, c);
-    show(name, work, &t);
-}
-
-fn four(
-    name: &[u8],
-    work: usize,
-    a: meaning::Node,
-    b: meaning::Node,
-    c: meaning::Node,
-    d: meaning::Node,
-) {
-    let mut t = [0u32; 20];
-    put(&mut t, 0, a);
-    put(&mut t, 1, b);
-    put(&mut t, 2, c);
-    put(&mut t, 3, d);
-    show(name, work, &t);
-}
-
-fn five(
-    name: &[u8],
-    work: usize,
-    a: meaning::Node,
-    b: meaning::Node,
-    c: meaning::Node,
-    d: meaning::Node,
-    e: meaning::Node,
-) {
-    let mut t = [0u32; 25];
-    put(&mut t, 0, a);
-    put(&mut t, 1, b);
-    put(&mut t, 2, c);
-    put(&mut t, 3, d);
-    put(&mut t, 4, e);
-    show(name, work, &t);
-}
-
-fn six(
-    name: &[u8],
-    work: usize,
-    a: meaning::Node,
-    b: meaning::Node,
-    c: meaning::Node,
-    d: meaning::Node,
-    e: meaning::Node,
-    f: meaning::Node,
-) {
-    let mut t = [0u32; 30];
-    put(&mut t, 0, a);
-    put(&mut t, 1, b);
-    put(&mut t, 2, c);
-    put(&mut t, 3, d);
-    put(&mut t, 4, e);
-    put(&mut t, 5, f);
-    show(name, work, &t);
-}
-
-fn seven(
-    name: &[u8],
-    work: usize,
-    a: meaning::Node,
-    b: meaning::Node,
-    c: meaning::Node,
-    d: meaning::Node,
-    e: meaning::Node,
-    f: meaning::Node,
-    g: meaning::Node,
-) {
-    let mut t = [0u32; 35];
-    put(&mut t, 0, a);
-    put(&mut t, 1, b);
-    put(&mut t, 2, c);
-    put(&mut t, 3, d);
-    put(&mut t, 4, e);
-    put(&mut t, 5, f);
-    put(&mut t, 6, g);
-    show(name, work, &t);
-}
-
-// 1, of the whole table: no word, 14 words, 4,097 nodes.
-fn damaged_tables() {
-    let none = [0u32; 0];
-    show(b"no word", LARGE, &none);
-    let uneven = [0u32; 14];
-    show(b"14 words", LARGE, &uneven);
-    let long = [0u32; 20485];
-    show(b"4,097 nodes", LARGE, &long);
-}
-
-// 1, of one word; the lowest such node is named.
-fn damaged_nodes() {
-    three(b"kind 8", LARGE, A, node(8, 0, 0, 0, 0), A_THEN_B);
-    three(
-        b"an atom's max filled",
-        LARGE,
-        A,
-        node(1, 1, 0, 0, 1),
-        A_THEN_B,
-    );
-    three(
-        b"kind 0 and min $",
-        LARGE,
-        node(0, 0, 0, 0, 0),
-        B,
-        delay(0, 1, tree::UNLIMITED, tree::UNLIMITED),
-    );
-    three(
-        b"a ##1 atom 65,536",
-        LARGE,
-        A,
-        node(1, 65536, 0, 0, 0),
-        A_THEN_B,
-    );
-    three(b"a ##1 itself", LARGE, A, B, delay(0, 2, 1, 1));
-    three(
-        b"a ##[$:$] b",
-        LARGE,
-        A,
-        B,
-        delay(0, 1, tree::UNLIMITED, tree::UNLIMITED),
-    );
-    two(b"atom 65,536 throughout a", LARGE, A, throughout(65536, 0));
-}
-
-// 2, which comes after 1 and does not wait for room.
-fn uses_not_once() {
-    three(b"a ##1 a, b beside it", LARGE, A, B, delay(0, 0, 1, 1));
-    three(b"b[*2], a beside it", LARGE, A, B, consec(1, 2, 2));
-    four(
-        b"b ##1 (a ##1 b), one b",
-        0,
-        A,
-        B,
-        A_THEN_B,
-        delay(1, 2, 1, 1),
-    );
-    two(b"a throughout a, one node a", LARGE, A, throughout(0, 0));
-    three(
-        b"a ##[$:1] a, one node a",
-        LARGE,
-        A,
-        throughout(0, 0),
-        delay(0, 1, tree::UNLIMITED, 1),
-    );
-}
-
-// 3, which comes after 2.
-fn ranges_out_of_order() {
-    three(b"a ##[2:1] b", LARGE, A, B, delay(0, 1, 2, 1));
-    two(b"a[*3:2]", LARGE, A, consec(0, 3, 2));
-    two(b"a[->0]", LARGE, A, goto(0, 0));
-    two(b"a[->2:5]", LARGE, A, node(4, 0, 0, 2, 5));
-    two(b"a[=2:$]", LARGE, A, node(5, 0, 0, 2, tree::UNLIMITED));
-    three(
-        b"a[=2:$] and a[=0] over one a",
-        LARGE,
-        A,
-        node(5, 0, 0, 2, tree::UNLIMITED),
-        nonconsec(0, 0),
-    );
-    three(b"a[*3:2][*3:2]", LARGE, A, consec(0, 3, 2), consec(1, 3, 2));
-}
+use trees_shown::A;
+use trees_shown::A_THEN_B;
+use trees_shown::B;
+use trees_shown::C;
+use trees_shown::LARGE;
+use trees_shown::consec;
+use trees_shown::delay;
+use trees_shown::five;
+use trees_shown::four;
+use trees_shown::goto;
+use trees_shown::node;
+use trees_shown::nonconsec;
+use trees_shown::put;
+use trees_shown::seven;
+use trees_shown::show;
+use trees_shown::six;
+use trees_shown::three;
+use trees_shown::throughout;
+use trees_shown::two;
+use trees_shown::within;
 
 // c throughout over itself, over a: as many nodes as the table has.
 fn throughouts(t: &mut [u32]) {
@@ -640,10 +368,6 @@ fn whole_tables() {
 }
 
 fn main() {
-    damaged_tables();
-    damaged_nodes();
-    uses_not_once();
-    ranges_out_of_order();
     depths_of_throughouts();
     depths_under_within();
     counts_above_256();

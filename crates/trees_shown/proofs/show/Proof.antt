@@ -1,15 +1,15 @@
 -- The walk is asked of a table that passed the checks.
 use Rattle.tree.proofs.Checks.{a-checked-table-is-formed}
 use borrow.Author.Needs.{needs}
-use Rattle.trees_refused.proofs.show.Statement.{statement}
-use Rattle.trees_refused.proofs.show.Tie as tie
-use Rattle.trees_refused.proofs.show.Reads as reads
-use Rattle.trees_refused.proofs.show.Lts as lts
+use Rattle.trees_shown.proofs.show.Statement.{statement}
+use Rattle.trees_shown.proofs.show.Tie as tie
+use Rattle.trees_shown.proofs.show.Reads as reads
+use Rattle.trees_shown.proofs.show.Lts as lts
 use Rattle.count.proofs.walked_root.Reads as walked-root-reads
 use Rattle.io.proofs.write_all.Reads as write-all-reads
 use Rattle.tree.proofs.checked.Reads as checked-reads
-use Rattle.trees_refused.proofs.refuse.Reads as refuse-reads
-use Rattle.trees_refused.proofs.say.Reads as say-reads
+use Rattle.trees_shown.proofs.refuse.Reads as refuse-reads
+use Rattle.trees_shown.proofs.say.Reads as say-reads
 
 -- src/main.rt:97:5
 write-all-requires : tie.Need-write-all-requires

@@ -7,8 +7,6 @@ use Rattle.trees_refused.proofs.atoms.Statement.{statement}
 use Rattle.trees_refused.proofs.atoms.Tie as tie
 use Rattle.trees_refused.proofs.atoms.Reads as reads
 use Rattle.trees_refused.proofs.atoms.Lts as lts
-use Rattle.trees_refused.proofs.node.Reads as node-reads
-use Rattle.trees_refused.proofs.put.Reads as put-reads
 
 abbrev Inv-loop : tie.InvT-loop
 Inv-loop t₀ n₀ t n = length t ≡ length t₀

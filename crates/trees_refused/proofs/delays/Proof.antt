@@ -7,8 +7,6 @@ use Rattle.trees_refused.proofs.delays.Statement.{statement}
 use Rattle.trees_refused.proofs.delays.Tie as tie
 use Rattle.trees_refused.proofs.delays.Reads as reads
 use Rattle.trees_refused.proofs.delays.Lts as lts
-use Rattle.trees_refused.proofs.delay.Reads as delay-reads
-use Rattle.trees_refused.proofs.put.Reads as put-reads
 
 abbrev Inv-loop : tie.InvT-loop
 Inv-loop t₀ i₀ t i = length t ≡ length t₀

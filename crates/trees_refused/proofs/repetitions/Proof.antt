@@ -7,8 +7,6 @@ use Rattle.trees_refused.proofs.repetitions.Statement.{statement}
 use Rattle.trees_refused.proofs.repetitions.Tie as tie
 use Rattle.trees_refused.proofs.repetitions.Reads as reads
 use Rattle.trees_refused.proofs.repetitions.Lts as lts
-use Rattle.trees_refused.proofs.consec.Reads as consec-reads
-use Rattle.trees_refused.proofs.put.Reads as put-reads
 
 abbrev Inv-loop : tie.InvT-loop
 Inv-loop t₀ first n₀ t n = length t ≡ length t₀

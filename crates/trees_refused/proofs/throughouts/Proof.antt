@@ -7,8 +7,6 @@ use Rattle.trees_refused.proofs.throughouts.Statement.{statement}
 use Rattle.trees_refused.proofs.throughouts.Tie as tie
 use Rattle.trees_refused.proofs.throughouts.Reads as reads
 use Rattle.trees_refused.proofs.throughouts.Lts as lts
-use Rattle.trees_refused.proofs.put.Reads as put-reads
-use Rattle.trees_refused.proofs.throughout.Reads as throughout-reads
 
 abbrev Inv-loop : tie.InvT-loop
 Inv-loop t₀ n₀ t n = length t ≡ length t₀

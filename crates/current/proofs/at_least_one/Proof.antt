@@ -1,0 +1,15 @@
+use Rattle.words.specs.Choice.{tests}
+use Rattle.current.specs.Text.{atLeastOne}
+use Rattle.current.proofs.at_least_one.Statement.{statement}
+use Rattle.current.proofs.at_least_one.Tie as tie
+
+returns : tie.Need-returns
+unfolding atLeastOne
+returns c = search tests
+
+returns-2 : tie.Need-returns-2
+unfolding atLeastOne
+returns-2 c = search tests
+
+pub at-least-one-spec : {M : Type 1} → statement M
+at-least-one-spec = tie.close (tie.spec returns returns-2)

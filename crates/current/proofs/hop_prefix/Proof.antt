@@ -1,0 +1,33 @@
+use Rattle.current.specs.Text.{hopPrefix}
+use Rattle.current.proofs.Laws.{nothing, hop-prefix-in, hop-prefix-room}
+use borrow.Author.Needs.{needs}
+use Rattle.current.proofs.hop_prefix.Statement.{statement}
+use Rattle.current.proofs.hop_prefix.Tie as tie
+
+enum-told : tie.Need-enum-told
+enum-told c = search needs
+
+enum-told-2 : tie.Need-enum-told-2
+enum-told-2 c = search needs
+
+add-put : tie.Need-add-put
+add-put c = search needs
+
+put-requires : tie.Need-put-requires
+unfolding hopPrefix
+put-requires c κs = search hop-prefix-room
+
+returns : tie.Need-returns
+unfolding hopPrefix
+returns c = search (nothing, hop-prefix-in)
+
+same-length : tie.Need-same-length
+same-length c = search needs
+
+returns-2 : tie.Need-returns-2
+unfolding hopPrefix
+returns-2 c = search hop-prefix-in
+
+pub hop-prefix-spec : {M : Type 1} → statement M
+hop-prefix-spec =
+    tie.close (tie.spec enum-told enum-told-2 add-put put-requires returns same-length returns-2)

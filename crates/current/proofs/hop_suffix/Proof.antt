@@ -1,0 +1,30 @@
+use Rattle.current.specs.Text.{hopSuffix}
+use Rattle.current.proofs.Laws.{nothing, hop-suffix-in, hop-suffix-room}
+use borrow.Author.Needs.{needs}
+use Rattle.current.proofs.hop_suffix.Statement.{statement}
+use Rattle.current.proofs.hop_suffix.Tie as tie
+
+enum-told : tie.Need-enum-told
+enum-told c = search needs
+
+enum-told-2 : tie.Need-enum-told-2
+enum-told-2 c = search needs
+
+put-requires : tie.Need-put-requires
+unfolding hopSuffix
+put-requires c κs = search hop-suffix-room
+
+returns : tie.Need-returns
+unfolding hopSuffix
+returns c = search (nothing, hop-suffix-in)
+
+same-length : tie.Need-same-length
+same-length c = search needs
+
+returns-2 : tie.Need-returns-2
+unfolding hopSuffix
+returns-2 c = search hop-suffix-in
+
+pub hop-suffix-spec : {M : Type 1} → statement M
+hop-suffix-spec =
+    tie.close (tie.spec enum-told enum-told-2 put-requires returns same-length returns-2)

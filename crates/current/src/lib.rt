@@ -1,0 +1,500 @@
+// The current expression of an alternative, written from its stored steps straight into the output: no expression is ever kept.
+//
+// Example: the steps Bool(0), Bool(1) after AtLeast(0) give the words r0 a0 any or a1 any and.
+ghost use mathlib.Core.Path.{_≡_};
+ghost use mathlib.Core.Bool.{«false»};
+ghost use mathlib.Core.List.{[], _∷_, _++_};
+ghost use Prim.Native.Nat.{_+_, _*_, _-_, _≤_, _<_};
+ghost use lib.ListN.{length};
+ghost use Rattle.words.specs.Written.{Wrote};
+ghost use Rattle.term.specs.Steps.{termAtom};
+ghost use Rattle.meaning.specs.Refusals.{is-empty};
+ghost use Rattle.current.specs.Text.{nthStep, beforeEmpty, «reach», atLeastOne, hopRegisters, termRegisters, stepRegisters, registersAt, hopKeeps, termKeeps, hopPrefix, hopSuffix, termPrefix, termSuffix, hopBase, termBase, termText, leadText, textAt, activationAt, oneWord};
+ghost use Rattle.current.specs.Walk.{stepPrefix, stepSuffix, stepBase, goesOn, baseText, suffixesAfter, textBefore, BeginsAnew, Piece, Ready, Tail};
+
+// 01's operations, as words with argument 0.
+pub const ATOM: u32 = 16777216;
+
+pub const REGISTER: u32 = 2 * ATOM;
+
+pub const ZERO: u32 = 3 * ATOM;
+
+pub const ONE: u32 = 4 * ATOM;
+
+pub const ANY: u32 = 5 * ATOM;
+
+pub const NOT: u32 = 6 * ATOM;
+
+pub const AND: u32 = 7 * ATOM;
+
+pub const OR: u32 = 8 * ATOM;
+
+// The words of a slice.
+pub fn copied(s: &[u32], out: &mut [u32], at: usize) -> usize
+    requires { ⌜ at + length (now s) ≤ length (now out) ⌝ }
+    ensures { λ r. ⌜ Wrote (now (out .entry)) (now (out .exit)) at r (now (s .entry)) ⌝ }
+{
+    let mut p = at;
+    let mut k = 0;
+    while k < s.len() {
+        p = words::put(out, p, s[k]);
+        k += 1;
+    }
+    p
+}
+
+// The k-th step.
+pub fn step(steps: &[u32], k: usize) -> meaning::SeqStep
+    requires { ⌜ (k * 5 + 5 ≤ length (now steps)) × (k < 65536) ⌝ }
+    ensures { λ r. ⌜ r ≡ nthStep (now (steps .entry)) k ⌝ }
+{
+    term::load(steps, k * 5)
+}
+
+pub fn is_empty(x: meaning::SeqTerm) -> bool
+    ensures { λ r. ⌜ r ≡ is-empty x ⌝ }
+{
+    match x {
+        meaning::SeqTerm::Bool(_) => false,
+        meaning::SeqTerm::Goto(_, _) => false,
+        meaning::SeqTerm::Nonconsec(_, _) => false,
+        meaning::SeqTerm::ConsecAtLeast(_, _) => false,
+        meaning::SeqTerm::Empty => true,
+    }
+}
+
+fn one_less(d: u32) -> u32
+    ensures { λ r. ⌜ r ≡ d - 1 ⌝ }
+{
+    if d == 0 {
+        return 0;
+    }
+    d - 1
+}
+
+fn before_empty(h: meaning::SeqHop) -> meaning::SeqHop
+    ensures { λ r. ⌜ r ≡ beforeEmpty h ⌝ }
+{
+    match h {
+        meaning::SeqHop::Fixed(d) => meaning::SeqHop::Fixed(one_less(d)),
+        meaning::SeqHop::AtLeast(_) => meaning::SeqHop::Fixed(0),
+    }
+}
+
+// The hop that a later step takes.
+pub fn reach(s: meaning::SeqStep) -> meaning::SeqHop
+    ensures { λ r. ⌜ r ≡ reach s ⌝ }
+{
+    let x = s.term;
+    let h = s.hop;
+    if is_empty(x) {
+        return before_empty(h);
+    }
+    h
+}
+
+// A count of 0 is taken as 1.
+pub fn at_least_one(n: u32) -> u32
+    ensures { λ r. ⌜ r ≡ atLeastOne n ⌝ }
+{
+    if n == 0 {
+        return 1;
+    }
+    n
+}
+
+// In 64 bits: a hop and a term can both be near 2^32.
+pub fn hop_registers(h: meaning::SeqHop) -> u64
+    ensures { λ r. ⌜ r ≡ hopRegisters h ⌝ }
+    ensures small { λ r. ⌜ r ≤ 4294967295 ⌝ }
+{
+    match h {
+        meaning::SeqHop::Fixed(d) => d as u64,
+        meaning::SeqHop::AtLeast(m) => at_least_one(m) as u64,
+    }
+}
+
+pub fn term_registers(x: meaning::SeqTerm) -> u64
+    ensures { λ r. ⌜ r ≡ termRegisters x ⌝ }
+    ensures small { λ r. ⌜ r ≤ 4294967296 ⌝ }
+{
+    match x {
+        meaning::SeqTerm::Bool(_) => 0,
+        meaning::SeqTerm::Goto(_, k) => at_least_one(k) as u64,
+        meaning::SeqTerm::Nonconsec(_, k) => at_least_one(k) as u64 + 1,
+        meaning::SeqTerm::ConsecAtLeast(_, k) => at_least_one(k) as u64,
+        meaning::SeqTerm::Empty => 0,
+    }
+}
+
+// The registers of the k-th step; the first step's hop is never taken.
+pub fn registers_at(steps: &[u32], k: usize) -> u64
+    requires { ⌜ (k * 5 + 5 ≤ length (now steps)) × (k < 65536) ⌝ }
+    ensures { λ r. ⌜ r ≡ registersAt (now (steps .entry)) k ⌝ }
+    ensures small { λ r. ⌜ r ≤ 8589934591 ⌝ }
+{
+    let s = step(steps, k);
+    let x = s.term;
+    let own = term_registers(x);
+    if k == 0 {
+        return own;
+    }
+    let h = reach(s);
+    hop_registers(h) + own
+}
+
+// The first register of a later step's term, r being the step's own.
+pub fn term_register(s: meaning::SeqStep, r: u32) -> u32
+    requires { ⌜ r + stepRegisters s ≤ 65536 ⌝ }
+    ensures { λ q. ⌜ q ≡ r + hopRegisters (reach s) ⌝ }
+{
+    let h = reach(s);
+    let q = hop_registers(h);
+    r + q as u32
+}
+
+pub fn hop_keeps(h: meaning::SeqHop) -> bool
+    ensures { λ r. ⌜ r ≡ hopKeeps h ⌝ }
+{
+    match h {
+        meaning::SeqHop::Fixed(d) => d == 0,
+        meaning::SeqHop::AtLeast(m) => m == 0,
+    }
+}
+
+pub fn term_keeps(x: meaning::SeqTerm) -> bool
+    ensures { λ r. ⌜ r ≡ termKeeps x ⌝ }
+{
+    match x {
+        meaning::SeqTerm::Bool(_) => true,
+        meaning::SeqTerm::Goto(_, k) => k < 2,
+        meaning::SeqTerm::Nonconsec(_, k) => k < 2,
+        meaning::SeqTerm::ConsecAtLeast(_, k) => k < 2,
+        meaning::SeqTerm::Empty => true,
+    }
+}
+
+pub fn hop_prefix(h: meaning::SeqHop, r: u32, out: &mut [u32], at: usize) -> usize
+    requires { ⌜ (at + length (hopPrefix r h) ≤ length (now out)) × (r + hopRegisters h ≤ 65536) ⌝ }
+    ensures { λ p. ⌜ Wrote (now (out .entry)) (now (out .exit)) at p (hopPrefix r h) ⌝ }
+{
+    match h {
+        meaning::SeqHop::Fixed(_) => at,
+        meaning::SeqHop::AtLeast(_) => words::put(out, at, REGISTER + r),
+    }
+}
+
+pub fn hop_suffix(h: meaning::SeqHop, out: &mut [u32], at: usize) -> usize
+    requires { ⌜ at + length (hopSuffix h) ≤ length (now out) ⌝ }
+    ensures { λ p. ⌜ Wrote (now (out .entry)) (now (out .exit)) at p (hopSuffix h) ⌝ }
+{
+    match h {
+        meaning::SeqHop::Fixed(_) => at,
+        meaning::SeqHop::AtLeast(_) => words::put(out, at, OR),
+    }
+}
+
+pub fn hop_base(h: meaning::SeqHop, r: u32, guard: &[u32], out: &mut [u32], at: usize) -> usize
+    requires { ⌜ (at + length (hopBase (now guard) r h) ≤ length (now out)) × (r + hopRegisters h ≤ 65536) × (hopKeeps h ≡ false) ⌝ }
+    ensures { λ p. ⌜ Wrote (now (out .entry)) (now (out .exit)) at p (hopBase (now (guard .entry)) r h) ⌝ }
+{
+    match h {
+        meaning::SeqHop::Fixed(d) => {
+            let a = words::put(out, at, REGISTER + (r + d - 1));
+            copied(guard, out, a)
+        }
+        meaning::SeqHop::AtLeast(m) => words::put(out, at, REGISTER + (r + m - 1)),
+    }
+}
+
+pub fn term_prefix(x: meaning::SeqTerm, r: u32, out: &mut [u32], at: usize) -> usize
+    requires { ⌜ (at + length (termPrefix r x) ≤ length (now out)) × (r + termRegisters x ≤ 65536) × (termAtom x < 65536) ⌝ }
+    ensures { λ p. ⌜ Wrote (now (out .entry)) (now (out .exit)) at p (termPrefix r x) ⌝ }
+{
+    match x {
+        meaning::SeqTerm::Bool(_) => at,
+        meaning::SeqTerm::Goto(b, _) => copied(&[ATOM + b, ANY, REGISTER + r], out, at),
+        meaning::SeqTerm::Nonconsec(b, _) => copied(&[ATOM + b, ANY, REGISTER + r], out, at),
+        meaning::SeqTerm::ConsecAtLeast(_, _) => at,
+        meaning::SeqTerm::Empty => at,
+    }
+}
+
+pub fn term_suffix(x: meaning::SeqTerm, r: u32, out: &mut [u32], at: usize) -> usize
+    requires { ⌜ (at + length (termSuffix r x) ≤ length (now out)) × (r + termRegisters x ≤ 65536) × (termAtom x < 65536) ⌝ }
+    ensures { λ p. ⌜ Wrote (now (out .entry)) (now (out .exit)) at p (termSuffix r x) ⌝ }
+{
+    match x {
+        meaning::SeqTerm::Bool(a) => copied(&[ATOM + a, ANY, AND], out, at),
+        meaning::SeqTerm::Goto(_, _) => copied(&[OR, AND], out, at),
+        meaning::SeqTerm::Nonconsec(b, _) => copied(
+            &[OR, AND, REGISTER + (r + 1), ATOM + b, ANY, NOT, AND, OR],
+            out,
+            at,
+        ),
+        meaning::SeqTerm::ConsecAtLeast(b, _) => copied(
+            &[REGISTER + r, OR, ATOM + b, ANY, AND],
+            out,
+            at,
+        ),
+        meaning::SeqTerm::Empty => at,
+    }
+}
+
+pub fn term_base(x: meaning::SeqTerm, r: u32, out: &mut [u32], at: usize) -> usize
+    requires { ⌜ (at + length (termBase r x) ≤ length (now out)) × (r + termRegisters x ≤ 65536) × (termAtom x < 65536) × (termKeeps x ≡ false) ⌝ }
+    ensures { λ p. ⌜ Wrote (now (out .entry)) (now (out .exit)) at p (termBase r x) ⌝ }
+{
+    match x {
+        meaning::SeqTerm::Bool(_) => at,
+        meaning::SeqTerm::Goto(b, k) => copied(
+            &[ATOM + b, ANY, REGISTER + (r + k - 1), AND],
+            out,
+            at,
+        ),
+        meaning::SeqTerm::Nonconsec(b, k) => copied(
+            &[
+                ATOM + b,
+                ANY,
+                REGISTER + (r + k - 1),
+                AND,
+                REGISTER + (r + k),
+                ATOM + b,
+                ANY,
+                NOT,
+                AND,
+                OR,
+            ],
+            out,
+            at,
+        ),
+        meaning::SeqTerm::ConsecAtLeast(b, k) => copied(
+            &[
+                REGISTER + (r + k - 2),
+                REGISTER + (r + k - 1),
+                OR,
+                ATOM + b,
+                ANY,
+                AND,
+            ],
+            out,
+            at,
+        ),
+        meaning::SeqTerm::Empty => at,
+    }
+}
+
+// A leading machine, activated by constant one.
+fn lead_machine(x: meaning::SeqTerm, r: u32, out: &mut [u32], at: usize) -> usize
+    requires { ⌜ (at + length (termText r x (oneWord ∷ [])) ≤ length (now out)) × (r + termRegisters x ≤ 65536) × (termAtom x < 65536) ⌝ }
+    ensures { λ p. ⌜ Wrote (now (out .entry)) (now (out .exit)) at p (termText r x (oneWord ∷ [])) ⌝ }
+{
+    if term_keeps(x) {
+        let a = term_prefix(x, r, out, at);
+        let b = copied(&[ONE], out, a);
+        return term_suffix(x, r, out, b);
+    }
+    term_base(x, r, out, at)
+}
+
+// The first term.
+fn lead(x: meaning::SeqTerm, r: u32, out: &mut [u32], at: usize) -> usize
+    requires { ⌜ (at + length (leadText r x) ≤ length (now out)) × (r + termRegisters x ≤ 65536) × (termAtom x < 65536) ⌝ }
+    ensures { λ p. ⌜ Wrote (now (out .entry)) (now (out .exit)) at p (leadText r x) ⌝ }
+{
+    match x {
+        meaning::SeqTerm::Bool(a) => copied(&[ATOM + a, ANY], out, at),
+        meaning::SeqTerm::Goto(_, _) => lead_machine(x, r, out, at),
+        meaning::SeqTerm::Nonconsec(_, _) => lead_machine(x, r, out, at),
+        meaning::SeqTerm::ConsecAtLeast(_, _) => lead_machine(x, r, out, at),
+        meaning::SeqTerm::Empty => words::put(out, at, ZERO),
+    }
+}
+
+// The first step: its term, then the guard.
+fn first(x: meaning::SeqTerm, r: u32, guard: &[u32], out: &mut [u32], at: usize) -> usize
+    requires { ⌜ (at + length (leadText r x ++ now guard) ≤ length (now out)) × (r + termRegisters x ≤ 65536) × (termAtom x < 65536) ⌝ }
+    ensures { λ p. ⌜ Wrote (now (out .entry)) (now (out .exit)) at p (leadText r x ++ now (guard .entry)) ⌝ }
+{
+    let a = lead(x, r, out, at);
+    copied(guard, out, a)
+}
+
+// Whether the text after the k-th step holds the text before it.
+fn goes_on(steps: &[u32], k: usize) -> bool
+    requires { ⌜ (k * 5 + 5 ≤ length (now steps)) × (k < 65536) ⌝ }
+    ensures { λ r. ⌜ r ≡ goesOn (now (steps .entry)) k ⌝ }
+{
+    if k == 0 {
+        return false;
+    }
+    let s = step(steps, k);
+    let x = s.term;
+    let h = reach(s);
+    if hop_keeps(h) {
+        return term_keeps(x);
+    }
+    false
+}
+
+fn step_prefix(s: meaning::SeqStep, r: u32, out: &mut [u32], at: usize) -> usize
+    requires { ⌜ (at + length (stepPrefix r s) ≤ length (now out)) × (r + stepRegisters s ≤ 65536) × (termAtom (s .term) < 65536) ⌝ }
+    ensures { λ p. ⌜ Wrote (now (out .entry)) (now (out .exit)) at p (stepPrefix r s) ⌝ }
+{
+    let x = s.term;
+    let h = reach(s);
+    let q = term_register(s, r);
+    let a = term_prefix(x, q, out, at);
+    hop_prefix(h, r, out, a)
+}
+
+fn step_suffix(s: meaning::SeqStep, r: u32, out: &mut [u32], at: usize) -> usize
+    requires { ⌜ (at + length (stepSuffix r s) ≤ length (now out)) × (r + stepRegisters s ≤ 65536) × (termAtom (s .term) < 65536) ⌝ }
+    ensures { λ p. ⌜ Wrote (now (out .entry)) (now (out .exit)) at p (stepSuffix r s) ⌝ }
+{
+    let x = s.term;
+    let h = reach(s);
+    let q = term_register(s, r);
+    let a = hop_suffix(h, out, at);
+    term_suffix(x, q, out, a)
+}
+
+// A later step whose text begins anew, with its hop or with its term.
+fn step_base(s: meaning::SeqStep, r: u32, guard: &[u32], out: &mut [u32], at: usize) -> usize
+    requires { ⌜ (at + length (stepBase (now guard) r s) ≤ length (now out)) × (r + stepRegisters s ≤ 65536) × (termAtom (s .term) < 65536) × BeginsAnew s ⌝ }
+    ensures { λ p. ⌜ Wrote (now (out .entry)) (now (out .exit)) at p (stepBase (now (guard .entry)) r s) ⌝ }
+{
+    let x = s.term;
+    let h = reach(s);
+    let q = term_register(s, r);
+    if term_keeps(x) {
+        let a = term_prefix(x, q, out, at);
+        let b = hop_base(h, r, guard, out, a);
+        return term_suffix(x, q, out, b);
+    }
+    term_base(x, q, out, at)
+}
+
+// The text after the k-th step where it does not hold the text before it.
+fn base(steps: &[u32], k: usize, r: u32, guard: &[u32], out: &mut [u32], at: usize) -> usize
+    requires { ⌜ Piece (now steps) k r × (goesOn (now steps) k ≡ false) × (at + length (baseText (now steps) (now guard) k r) ≤ length (now out)) ⌝ }
+    ensures { λ p. ⌜ Wrote (now (out .entry)) (now (out .exit)) at p (baseText (now (steps .entry)) (now (guard .entry)) k r) ⌝ }
+{
+    let s = step(steps, k);
+    let x = s.term;
+    if k == 0 {
+        return first(x, r, guard, out, at);
+    }
+    step_base(s, r, guard, out, at)
+}
+
+// The prefix of the k-th step.
+fn prefix(steps: &[u32], k: usize, r: u32, out: &mut [u32], at: usize) -> usize
+    requires { ⌜ Piece (now steps) k r × (0 < k) × (at + length (stepPrefix r (nthStep (now steps) k)) ≤ length (now out)) ⌝ }
+    ensures { λ p. ⌜ Wrote (now (out .entry)) (now (out .exit)) at p (stepPrefix r (nthStep (now (steps .entry)) k)) ⌝ }
+{
+    let s = step(steps, k);
+    step_prefix(s, r, out, at)
+}
+
+// The suffix of the k-th step.
+fn suffix(steps: &[u32], k: usize, r: u32, out: &mut [u32], at: usize) -> usize
+    requires { ⌜ Piece (now steps) k r × (0 < k) × (at + length (stepSuffix r (nthStep (now steps) k)) ≤ length (now out)) ⌝ }
+    ensures { λ p. ⌜ Wrote (now (out .entry)) (now (out .exit)) at p (stepSuffix r (nthStep (now (steps .entry)) k)) ⌝ }
+{
+    let s = step(steps, k);
+    step_suffix(s, r, out, at)
+}
+
+// The first register of the step after the k-th, whose own is r.
+pub fn register_after(steps: &[u32], k: usize, r: u32) -> u32
+    requires { ⌜ (k * 5 + 5 ≤ length (now steps)) × (k < 65536) × (r + registersAt (now steps) k ≤ 65536) ⌝ }
+    ensures { λ q. ⌜ q ≡ r + registersAt (now (steps .entry)) k ⌝ }
+{
+    r + registers_at(steps, k) as u32
+}
+
+// The suffixes of the steps after the k-th, whose first register is n, up to the j-th.
+fn suffixes(steps: &[u32], k: usize, n: u32, j: usize, out: &mut [u32], at: usize) -> usize
+    requires { ⌜ Tail (now steps) k n j × (at + length (suffixesAfter (now steps) k n (j - k)) ≤ length (now out)) ⌝ }
+    ensures { λ p. ⌜ Wrote (now (out .entry)) (now (out .exit)) at p (suffixesAfter (now (steps .entry)) k n (j - k)) ⌝ }
+{
+    let mut p = at;
+    let mut i = k;
+    let mut r = n;
+    while i < j {
+        r = register_after(steps, i, r);
+        i += 1;
+        p = suffix(steps, i, r, out, p);
+    }
+    p
+}
+
+// The first register of the step before the k-th, whose own is r.
+fn register_before(steps: &[u32], k: usize, r: u32) -> u32
+    requires { ⌜ (k * 5 + 5 ≤ length (now steps)) × (k < 65536) × (0 < k) × (registersAt (now steps) (k - 1) ≤ r) ⌝ }
+    ensures { λ q. ⌜ q ≡ r - registersAt (now (steps .entry)) (k - 1) ⌝ }
+{
+    r - registers_at(steps, k - 1) as u32
+}
+
+// The text after the j-th step, whose first register is r: back to the last step that begins anew, and forth again.
+pub fn current(steps: &[u32], guard: &[u32], j: usize, r: u32, out: &mut [u32], at: usize) -> usize
+    requires { ⌜ Ready (now steps) j r × (at + length (textAt (now steps) (now guard) j r) ≤ length (now out)) ⌝ }
+    ensures { λ p. ⌜ Wrote (now (out .entry)) (now (out .exit)) at p (textAt (now (steps .entry)) (now (guard .entry)) j r) ⌝ }
+{
+    let mut k = j;
+    let mut n = r;
+    let mut p = at;
+    while goes_on(steps, k) {
+        let i = k - 1;
+        let m = register_before(steps, k, n);
+        p = prefix(steps, k, n, out, p);
+        k = i;
+        n = m;
+    }
+    let b = base(steps, k, n, guard, out, p);
+    suffixes(steps, k, n, j, out, b)
+}
+
+// The text before the k-th step, whose first register is r.
+pub fn before(steps: &[u32], guard: &[u32], k: usize, r: u32, out: &mut [u32], at: usize) -> usize
+    requires { ⌜ Ready (now steps) k r × (0 < k) × (at + length (textBefore (now steps) (now guard) k r) ≤ length (now out)) ⌝ }
+    ensures { λ p. ⌜ Wrote (now (out .entry)) (now (out .exit)) at p (textBefore (now (steps .entry)) (now (guard .entry)) k r) ⌝ }
+{
+    let n = register_before(steps, k, r);
+    current(steps, guard, k - 1, n, out, at)
+}
+
+// The text after the k-th step's hop.
+fn reached(steps: &[u32], guard: &[u32], k: usize, r: u32, out: &mut [u32], at: usize) -> usize
+    requires { ⌜ Ready (now steps) k r × (0 < k) × (at + length (activationAt (now steps) (now guard) k r) ≤ length (now out)) ⌝ }
+    ensures { λ p. ⌜ Wrote (now (out .entry)) (now (out .exit)) at p (activationAt (now (steps .entry)) (now (guard .entry)) k r) ⌝ }
+{
+    let s = step(steps, k);
+    let h = reach(s);
+    if hop_keeps(h) {
+        let a = hop_prefix(h, r, out, at);
+        let b = before(steps, guard, k, r, out, a);
+        return hop_suffix(h, out, b);
+    }
+    hop_base(h, r, guard, out, at)
+}
+
+// What starts the k-th term, whose step's first register is r.
+pub fn activation(
+    steps: &[u32],
+    guard: &[u32],
+    k: usize,
+    r: u32,
+    out: &mut [u32],
+    at: usize,
+) -> usize
+    requires { ⌜ Ready (now steps) k r × (at + length (activationAt (now steps) (now guard) k r) ≤ length (now out)) ⌝ }
+    ensures { λ p. ⌜ Wrote (now (out .entry)) (now (out .exit)) at p (activationAt (now (steps .entry)) (now (guard .entry)) k r) ⌝ }
+{
+    if k == 0 {
+        return words::put(out, at, ONE);
+    }
+    reached(steps, guard, k, r, out, at)
+}

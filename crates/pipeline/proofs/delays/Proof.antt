@@ -1,0 +1,50 @@
+use Prim.Native.Nat.{_-_}
+use borrow.Author.Needs.{needs}
+use Rattle.pipeline.proofs.Laws.{Delaying, delaying-begins, delaying-room, delaying-on, delaying-ends}
+use Rattle.pipeline.proofs.delays.Statement.{statement}
+use Rattle.pipeline.proofs.delays.Tie as tie
+
+abbrev Inv-loop : tie.InvT-loop
+Inv-loop guard r d out₀ at p₀ i₀ out p i = Delaying guard out₀ at r d out p i
+
+abbrev μ-loop : tie.MeasureT-loop
+μ-loop guard r d out₀ at p₀ i₀ out p i = d - i
+
+loop-holds : tie.Need-loop-holds Inv-loop μ-loop
+loop-holds c = search delaying-begins
+
+add-delay : tie.Need-add-delay Inv-loop μ-loop
+add-delay c = search needs
+
+delay-requires : tie.Need-delay-requires Inv-loop μ-loop
+delay-requires c κs = (search needs, search needs, search delaying-room)
+
+add-i : tie.Need-add-i Inv-loop μ-loop
+add-i c = search needs
+
+loop-less : tie.Need-loop-less Inv-loop μ-loop
+loop-less c = search needs
+
+loop-again : tie.Need-loop-again Inv-loop μ-loop
+loop-again c = search delaying-on
+
+same-length : tie.Need-same-length Inv-loop μ-loop
+same-length c = search needs
+
+returns : tie.Need-returns Inv-loop μ-loop
+returns c = search delaying-ends
+
+pub delays-spec : {M : Type 1} → statement M
+delays-spec =
+    tie.close
+    (tie.spec
+    Inv-loop
+    μ-loop
+    loop-holds
+    add-delay
+    delay-requires
+    add-i
+    loop-less
+    loop-again
+    same-length
+    returns)

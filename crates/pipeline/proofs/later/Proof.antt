@@ -1,0 +1,37 @@
+use Rattle.pipeline.proofs.Laws.{later-small, later-atom, later-hop-small, later-term-small, later-hop-room, later-term-room, later-done}
+use borrow.Author.Needs.{needs}
+use Rattle.pipeline.proofs.later.Statement.{statement}
+use Rattle.pipeline.proofs.later.Tie as tie
+
+step-requires : tie.Need-step-requires
+step-requires c κs = search needs
+
+reach-requires : tie.Need-reach-requires
+reach-requires c κs = search needs
+
+term-register-requires : tie.Need-term-register-requires
+term-register-requires c κs = search later-small
+
+hop-over-requires : tie.Need-hop-over-requires
+hop-over-requires c κs = (search needs, search needs, search later-hop-small, search later-hop-room)
+
+apply-term-requires : tie.Need-apply-term-requires
+apply-term-requires c κs = (search needs, search later-atom, search later-term-small, search later-term-room)
+
+same-length : tie.Need-same-length
+same-length c = search needs
+
+returns : tie.Need-returns
+returns c = search later-done
+
+pub later-spec : {M : Type 1} → statement M
+later-spec =
+    tie.close
+    (tie.spec
+    step-requires
+    reach-requires
+    term-register-requires
+    hop-over-requires
+    apply-term-requires
+    same-length
+    returns)

@@ -1,0 +1,260 @@
+// One alternative's stores (`synth_seq_pipeline`), written from its stored steps straight into the output.
+// Every text that a store needs is written anew from the steps, so no expression is kept.
+//
+// Example: the steps Bool(0), Bool(1) after Fixed(2) give a0 any seq0 r0 seq1.
+ghost use mathlib.Core.Path.{_≡_};
+ghost use mathlib.Core.List.{[], _∷_, _++_};
+ghost use Prim.Native.Nat.{_+_, _*_, _-_, _≤_, _<_};
+ghost use lib.ListN.{length};
+ghost use Rattle.words.specs.Written.{Wrote};
+ghost use Rattle.term.specs.Steps.{termAtom};
+ghost use Rattle.meaning.specs.Expression.{seq, arm};
+ghost use Rattle.meaning.specs.declared.SeqHop.the-variants.{AtLeast};
+ghost use Rattle.current.specs.Text.{registerWord, orWord, storeWord, nthStep, hopRegisters, registersAt, registersBefore};
+ghost use Rattle.current.specs.Walk.{textBefore, Ready};
+ghost use mathlib.Core.Bool.{«false»};
+ghost use Rattle.meaning.specs.Refusals.{fixed-from-1, empties-fit, steps-fit};
+ghost use Rattle.pipeline.specs.Fit.{stepsFrom, hopFits};
+ghost use Rattle.pipeline.specs.Stores.{delayStores, hopStores, stepStores, storesAfter, alternativeStores, ReadyAll};
+
+const SEQ: u32 = 9 * current::ATOM;
+
+const ARM: u32 = 10 * current::ATOM;
+
+// `seq_delay_reg`: register r takes the one before, with the guard.
+fn delay(guard: &[u32], r: u32, out: &mut [u32], at: usize) -> usize
+    requires { ⌜ (0 < r) × (r < 65536) × (at + (2 + length (now guard)) ≤ length (now out)) ⌝ }
+    ensures { λ p. ⌜ Wrote (now (out .entry)) (now (out .exit)) at p (registerWord (r - 1) ∷ (now (guard .entry) ++ (storeWord seq r ∷ []))) ⌝ }
+{
+    let a = words::put(out, at, current::REGISTER + (r - 1));
+    let b = current::copied(guard, out, a);
+    words::put(out, b, SEQ + r)
+}
+
+// d of them, from r on.
+fn delays(guard: &[u32], r: u32, d: u32, out: &mut [u32], at: usize) -> usize
+    requires { ⌜ (0 < r) × (r + d ≤ 65536) × (at + length (delayStores (now guard) r d (registerWord (r - 1) ∷ now guard)) ≤ length (now out)) ⌝ }
+    ensures { λ p. ⌜ Wrote (now (out .entry)) (now (out .exit)) at p (delayStores (now (guard .entry)) r d (registerWord (r - 1) ∷ now (guard .entry))) ⌝ }
+{
+    let mut p = at;
+    let mut i = 0;
+    while i < d {
+        p = delay(guard, r + i, out, p);
+        i += 1;
+    }
+    p
+}
+
+// d delays of the text before the k-th step, from its first register r on. Their guard stands apart: an "at least" hop has none.
+fn fixed(
+    steps: &[u32],
+    guard: &[u32],
+    kept: &[u32],
+    k: usize,
+    r: u32,
+    d: u32,
+    out: &mut [u32],
+    at: usize,
+) -> usize
+    requires { ⌜ Ready (now steps) k r × (0 < k) × (r + d ≤ 65536) × (at + length (delayStores (now kept) r d (textBefore (now steps) (now guard) k r)) ≤ length (now out)) ⌝ }
+    ensures { λ p. ⌜ Wrote (now (out .entry)) (now (out .exit)) at p (delayStores (now (kept .entry)) r d (textBefore (now (steps .entry)) (now (guard .entry)) k r)) ⌝ }
+{
+    if d == 0 {
+        return at;
+    }
+    let a = current::before(steps, guard, k, r, out, at);
+    let b = words::put(out, a, SEQ + r);
+    delays(kept, r + 1, d - 1, out, b)
+}
+
+// The latch of an "at least 0" or "at least 1".
+fn latch(steps: &[u32], guard: &[u32], k: usize, r: u32, out: &mut [u32], at: usize) -> usize
+    requires { ⌜ Ready (now steps) k r × (0 < k) × (r < 65536) × (at + (3 + length (textBefore (now steps) (now guard) k r)) ≤ length (now out)) ⌝ }
+    ensures { λ p. ⌜ Wrote (now (out .entry)) (now (out .exit)) at p (registerWord r ∷ (textBefore (now (steps .entry)) (now (guard .entry)) k r ++ (orWord ∷ storeWord arm r ∷ []))) ⌝ }
+{
+    let a = words::put(out, at, current::REGISTER + r);
+    let b = current::before(steps, guard, k, r, out, a);
+    current::copied(&[current::OR, ARM + r], out, b)
+}
+
+// The latch after m - 1 delays.
+fn late_latch(
+    steps: &[u32],
+    guard: &[u32],
+    k: usize,
+    r: u32,
+    m: u32,
+    out: &mut [u32],
+    at: usize,
+) -> usize
+    requires { ⌜ Ready (now steps) k r × (0 < k) × (2 ≤ m) × (r + m ≤ 65536) × (at + (4 + length (delayStores [] r (m - 1) (textBefore (now steps) (now guard) k r))) ≤ length (now out)) ⌝ }
+    ensures { λ p. ⌜ Wrote (now (out .entry)) (now (out .exit)) at p (delayStores [] r (m - 1) (textBefore (now (steps .entry)) (now (guard .entry)) k r) ++ (registerWord (r + m - 1) ∷ registerWord (r + m - 2) ∷ orWord ∷ storeWord arm (r + m - 1) ∷ [])) ⌝ }
+{
+    let a = fixed(steps, guard, &guard[..0], k, r, m - 1, out, at);
+    current::copied(
+        &[
+            current::REGISTER + (r + m - 1),
+            current::REGISTER + (r + m - 2),
+            current::OR,
+            ARM + (r + m - 1),
+        ],
+        out,
+        a,
+    )
+}
+
+fn at_least(
+    steps: &[u32],
+    guard: &[u32],
+    k: usize,
+    r: u32,
+    m: u32,
+    out: &mut [u32],
+    at: usize,
+) -> usize
+    requires { ⌜ Ready (now steps) k r × (0 < k) × (r + hopRegisters (AtLeast m) ≤ 65536) × (at + length (hopStores (now guard) r (AtLeast m) (textBefore (now steps) (now guard) k r)) ≤ length (now out)) ⌝ }
+    ensures { λ p. ⌜ Wrote (now (out .entry)) (now (out .exit)) at p (hopStores (now (guard .entry)) r (AtLeast m) (textBefore (now (steps .entry)) (now (guard .entry)) k r)) ⌝ }
+{
+    if m < 2 {
+        return latch(steps, guard, k, r, out, at);
+    }
+    late_latch(steps, guard, k, r, m, out, at)
+}
+
+// The stores of the k-th step's hop.
+fn hop_over(
+    steps: &[u32],
+    guard: &[u32],
+    k: usize,
+    r: u32,
+    h: meaning::SeqHop,
+    out: &mut [u32],
+    at: usize,
+) -> usize
+    requires { ⌜ Ready (now steps) k r × (0 < k) × (r + hopRegisters h ≤ 65536) × (at + length (hopStores (now guard) r h (textBefore (now steps) (now guard) k r)) ≤ length (now out)) ⌝ }
+    ensures { λ p. ⌜ Wrote (now (out .entry)) (now (out .exit)) at p (hopStores (now (guard .entry)) r h (textBefore (now (steps .entry)) (now (guard .entry)) k r)) ⌝ }
+{
+    match h {
+        meaning::SeqHop::Fixed(d) => fixed(steps, guard, guard, k, r, d, out, at),
+        meaning::SeqHop::AtLeast(m) => at_least(steps, guard, k, r, m, out, at),
+    }
+}
+
+// The stores of the k-th step, a later one.
+fn later(steps: &[u32], guard: &[u32], k: usize, r: u32, out: &mut [u32], at: usize) -> usize
+    requires { ⌜ Ready (now steps) k r × (0 < k) × (at + length (stepStores (now steps) (now guard) k r) ≤ length (now out)) ⌝ }
+    ensures { λ p. ⌜ Wrote (now (out .entry)) (now (out .exit)) at p (stepStores (now (steps .entry)) (now (guard .entry)) k r) ⌝ }
+{
+    let s = current::step(steps, k);
+    let x = s.term;
+    let h = current::reach(s);
+    let q = current::term_register(s, r);
+    let a = hop_over(steps, guard, k, r, h, out, at);
+    fsm::apply_term(steps, guard, k, r, x, q, out, a)
+}
+
+// The stores of the steps after the first.
+fn laters(steps: &[u32], guard: &[u32], count: usize, n: u32, out: &mut [u32], at: usize) -> usize
+    requires { ⌜ ReadyAll (now steps) count n × (at + length (storesAfter (now steps) (now guard) 0 n (count - 1)) ≤ length (now out)) ⌝ }
+    ensures { λ p. ⌜ Wrote (now (out .entry)) (now (out .exit)) at p (storesAfter (now (steps .entry)) (now (guard .entry)) 0 n (count - 1)) ⌝ }
+{
+    let mut p = at;
+    let mut k = 1;
+    let mut r = current::register_after(steps, 0, n);
+    while k < count {
+        let q = current::register_after(steps, k, r);
+        p = later(steps, guard, k, r, out, p);
+        k += 1;
+        r = q;
+    }
+    p
+}
+
+// All stores of an alternative of count steps whose first register is n: the first term's, then the later steps'.
+pub fn stores(
+    steps: &[u32],
+    guard: &[u32],
+    count: usize,
+    n: u32,
+    out: &mut [u32],
+    at: usize,
+) -> usize
+    requires { ⌜ ReadyAll (now steps) count n × (at + length (alternativeStores (now steps) (now guard) count n) ≤ length (now out)) ⌝ }
+    ensures { λ p. ⌜ Wrote (now (out .entry)) (now (out .exit)) at p (alternativeStores (now (steps .entry)) (now (guard .entry)) count n) ⌝ }
+{
+    let s = current::step(steps, 0);
+    let x = s.term;
+    let a = fsm::seed(steps, guard, x, n, out, at);
+    laters(steps, guard, count, n, out, a)
+}
+
+fn fixed_from_one(h: meaning::SeqHop) -> bool
+    ensures { λ r. ⌜ r ≡ fixed-from-1 h ⌝ }
+{
+    match h {
+        meaning::SeqHop::Fixed(d) => 0 < d,
+        meaning::SeqHop::AtLeast(_) => false,
+    }
+}
+
+// Whether a hop fits between its terms, of which Empty is told.
+fn hop_fits(before: bool, after: bool, h: meaning::SeqHop) -> bool
+    ensures { λ r. ⌜ r ≡ hopFits before after h ⌝ }
+{
+    if before {
+        return fixed_from_one(h);
+    }
+    if after {
+        return fixed_from_one(h);
+    }
+    true
+}
+
+// Refusal 12 of the steps after the first, which is not Empty.
+fn empties_fit(steps: &[u32], count: usize) -> bool
+    requires { ⌜ (1 ≤ count) × (count * 5 ≤ length (now steps)) × (count ≤ 65536) ⌝ }
+    ensures { λ r. ⌜ r ≡ empties-fit «false» (stepsFrom (now (steps .entry)) 1 (count - 1)) ⌝ }
+{
+    let mut before = false;
+    let mut k = 1;
+    while k < count {
+        let s = current::step(steps, k);
+        let x = s.term;
+        let h = s.hop;
+        let after = current::is_empty(x);
+        if !hop_fits(before, after, h) {
+            return false;
+        }
+        before = after;
+        k += 1;
+    }
+    true
+}
+
+// Refusal 12's test of an alternative: no Empty that leads, or that has a hop before or behind it which is not fixed from 1 on.
+pub fn steps_fit(steps: &[u32], count: usize) -> bool
+    requires { ⌜ (1 ≤ count) × (count * 5 ≤ length (now steps)) × (count ≤ 65536) ⌝ }
+    ensures { λ r. ⌜ r ≡ steps-fit (stepsFrom (now (steps .entry)) 0 count) ⌝ }
+{
+    let s = current::step(steps, 0);
+    let x = s.term;
+    if current::is_empty(x) {
+        return false;
+    }
+    empties_fit(steps, count)
+}
+
+// The registers of an alternative, for refusal 13: a sum, so that a hop of 4,294,967,294 is one addition.
+pub fn registers(steps: &[u32], count: usize) -> u64
+    requires { ⌜ (count * 5 ≤ length (now steps)) × (count ≤ 65536) ⌝ }
+    ensures { λ r. ⌜ r ≡ registersBefore (now (steps .entry)) count ⌝ }
+    ensures small { λ r. ⌜ r ≤ 562949953355776 ⌝ }
+{
+    let mut sum = 0;
+    let mut k = 0;
+    while k < count {
+        sum += current::registers_at(steps, k);
+        k += 1;
+    }
+    sum
+}

@@ -1,0 +1,42 @@
+use Rattle.sizes.specs.Sizes.{runSize}
+use borrow.Author.Needs.{needs}
+use Rattle.sizes.proofs.run_size.Statement.{statement}
+use Rattle.sizes.proofs.run_size.Tie as tie
+
+less-requires : tie.Need-less-requires
+less-requires c κs = search needs
+
+mul-stages : tie.Need-mul-stages
+mul-stages c = search needs
+
+add-either : tie.Need-add-either
+add-either c = search needs
+
+add-either-2 : tie.Need-add-either-2
+add-either-2 c = search needs
+
+add-either-3 : tie.Need-add-either-3
+add-either-3 c = search needs
+
+add-either-4 : tie.Need-add-either-4
+add-either-4 c = search needs
+
+either-requires : tie.Need-either-requires
+either-requires c κs = search needs
+
+returns : tie.Need-returns
+unfolding runSize
+returns c = cc
+
+pub run-size-spec : {M : Type 1} → statement M
+run-size-spec =
+    tie.close
+    (tie.spec
+    less-requires
+    mul-stages
+    add-either
+    add-either-2
+    add-either-3
+    add-either-4
+    either-requires
+    returns)

@@ -1,0 +1,78 @@
+use Rattle.sizes.specs.Sizes.{termStoresSize}
+use borrow.Author.Needs.{needs}
+use Rattle.sizes.proofs.term_stores.Statement.{statement}
+use Rattle.sizes.proofs.term_stores.Tie as tie
+
+enum-told : tie.Need-enum-told
+enum-told c = search needs
+
+enum-known-x : tie.Need-enum-known-x
+enum-known-x c = search needs
+
+cast-goto-size : tie.Need-cast-goto-size
+cast-goto-size c = search needs
+
+goto-size-requires : tie.Need-goto-size-requires
+goto-size-requires c κs = search needs
+
+enum-known-x-2 : tie.Need-enum-known-x-2
+enum-known-x-2 c = search needs
+
+cast-nonconsec-size : tie.Need-cast-nonconsec-size
+cast-nonconsec-size c = search needs
+
+nonconsec-size-requires : tie.Need-nonconsec-size-requires
+nonconsec-size-requires c κs = search needs
+
+enum-known-x-3 : tie.Need-enum-known-x-3
+enum-known-x-3 c = search needs
+
+cast-run-size : tie.Need-cast-run-size
+cast-run-size c = search needs
+
+run-size-requires : tie.Need-run-size-requires
+run-size-requires c κs = search needs
+
+enum-told-2 : tie.Need-enum-told-2
+enum-told-2 c = search needs
+
+returns : tie.Need-returns
+unfolding termStoresSize
+returns c = cc
+
+returns-2 : tie.Need-returns-2
+unfolding termStoresSize
+returns-2 c = cc
+
+returns-3 : tie.Need-returns-3
+unfolding termStoresSize
+returns-3 c = cc
+
+returns-4 : tie.Need-returns-4
+unfolding termStoresSize
+returns-4 c = cc
+
+returns-5 : tie.Need-returns-5
+unfolding termStoresSize
+returns-5 c = cc
+
+pub term-stores-spec : {M : Type 1} → statement M
+term-stores-spec =
+    tie.close
+    (tie.spec
+    enum-told
+    enum-known-x
+    cast-goto-size
+    goto-size-requires
+    enum-known-x-2
+    cast-nonconsec-size
+    nonconsec-size-requires
+    enum-known-x-3
+    cast-run-size
+    run-size-requires
+    enum-told-2
+    returns
+    returns-2
+    returns-3
+    returns-4
+    returns-5)

@@ -1,29 +1,25 @@
 -- The texts and registers of the steps are those of `synth_seq_pipeline`: each function of the lowering, in words.
 -- `the-current-expression-is-the-text` and `the-registers-are-counted` are the two that others cite. They assume nothing.
 use mathlib.Core.Path.{_≡_, refl, sym, ap, ap₂, _∙_}
-use mathlib.Core.Bool.{true, false}
 use mathlib.Core.List.{List, [], _∷_, _++_, append-nil, append-assoc}
-use Prim.Native.Nat.{ℕ, zero, suc, _+_, _*_, _-_, _<_, _≤_}
+use Prim.Native.Nat.{ℕ, zero, suc, _+_, _-_}
 use native.Mathlib.Omega.{arith}
 use native.Mathlib.Nat.{add-zero, zero-add}
-use lib.Dec.{eqb, ltb}
 use lib.ListN.{length, length-append}
 use borrow.Author.Tests.{le-ltb, ne-eqb}
 use Rattle.words.specs.Choice.{pick, pick-true, pick-false}
 use Rattle.meaning.specs.Tree.{below}
-use Rattle.meaning.specs.Expression.{Expr, a·, r·, zero·, one·, any, not·, and·, or·, Tag, Store, Synth, synth, andThen}
+use Rattle.meaning.specs.Expression.{Expr, r·, one·, or·, Store, Synth, synth, andThen}
 use Rattle.meaning.specs.Alternative.{Guard, unguarded, guard, step}
-use Rattle.meaning.specs.Machines.{bb, nbb, goto-stages, goto-fsm, extension, nonconsec-fsm, run-stages, consec-run-fsm}
+use Rattle.meaning.specs.Machines.{goto-stages, goto-fsm, extension, nonconsec-fsm, run-stages, consec-run-fsm}
 use Rattle.meaning.specs.Pipeline.{guard-and, delays, latch, hop-over, apply-term, seed, later, laters, synth-seq-pipeline}
-use Rattle.meaning.specs.Listing.{word, expression-words}
+use Rattle.meaning.specs.Listing.{expression-words}
 use Rattle.meaning.specs.declared.SeqTerm.{SeqTerm}
 use Rattle.meaning.specs.declared.SeqTerm.the-variants.{Bool as BoolTerm, Goto, Nonconsec, ConsecAtLeast, Empty}
 use Rattle.meaning.specs.declared.SeqHop.{SeqHop}
 use Rattle.meaning.specs.declared.SeqHop.the-variants.{Fixed, AtLeast}
 use Rattle.meaning.specs.declared.SeqStep.{SeqStep}
-use Rattle.meaning.specs.Refusals.{is-empty}
-use Rattle.current.proofs.Laws.{apart}
-use Rattle.current.specs.Text.{atomWord, registerWord, zeroWord, oneWord, anyWord, notWord, andWord, orWord, guardWords, nthStep, Stored, beforeEmpty, reach, atLeastOne, hopRegisters, termRegisters, stepRegisters, registersAt, registersBefore, hopKeeps, termKeeps, hopPrefix, hopSuffix, termPrefix, termSuffix, hopBase, termBase, hopText, termText, stepText, leadText, textAt, activationAt, extensionWords}
+use Rattle.current.specs.Text.{atomWord, registerWord, anyWord, andWord, orWord, guardWords, nthStep, Stored, beforeEmpty, reach, atLeastOne, hopRegisters, termRegisters, stepRegisters, registersAt, registersBefore, hopKeeps, termKeeps, hopPrefix, hopSuffix, termPrefix, termSuffix, hopBase, termBase, hopText, termText, stepText, leadText, textAt, extensionWords}
 
 -- The guard's words behind an expression guard it.
 pub guarded-words : (g : Guard) (e : Expr) → expression-words (guard-and g e) ≡ expression-words e ++ guardWords g

@@ -2,13 +2,12 @@
 -- A step's text is made by its hop, then by its term. Each keeps the text before it, between a prefix and a suffix, or begins anew.
 -- Example: `a ##2 b` ends in `r1 a1 any and`: the hop begins anew with its last register, and the term keeps `r1` and adds the rest.
 use mathlib.Core.Path.{_≡_}
-use mathlib.Core.Bool.{Bool, true, false}
+use mathlib.Core.Bool.{Bool, true}
 use mathlib.Core.List.{List, [], _∷_, _++_}
-use Prim.Native.Nat.{ℕ, zero, suc, _+_, _*_, _-_, _<_, _≤_}
+use Prim.Native.Nat.{ℕ, zero, suc, _+_, _*_, _-_}
 use lib.Dec.{eqb, ltb}
-use lib.ListN.{length}
 use Rattle.words.specs.Choice.{pick}
-use Rattle.term.specs.Steps.{termAtom, stepAt}
+use Rattle.term.specs.Steps.{stepAt}
 use Rattle.meaning.specs.Alternative.{Guard, unguarded, guard}
 use Rattle.meaning.specs.Expression.{Tag}
 use Rattle.meaning.specs.Listing.{word, expression-words, store-operation}

@@ -2,7 +2,7 @@
 -- Example: after `a ##[0:$] b` the walk writes `r0` going back, `a0 any` at the first step, and `or a1 any and` going forth.
 use mathlib.Core.Path.{_≡_}
 use mathlib.Core.Bool.{Bool, true, false}
-use mathlib.Core.List.{List, [], _∷_, _++_}
+use mathlib.Core.List.{List, [], _++_}
 use Prim.Native.Nat.{ℕ, zero, suc, _+_, _*_, _-_, _<_, _≤_}
 use lib.Dec.{eqb}
 use lib.ListN.{length}

@@ -51,6 +51,7 @@ pub fn step(steps: &[u32], k: usize) -> meaning::SeqStep
     term::load(steps, k * 5)
 }
 
+// Whether the term is Empty, which is no machine and has no text of its own.
 pub fn is_empty(x: meaning::SeqTerm) -> bool
     ensures { λ r. ⌜ r ≡ is-empty x ⌝ }
 {
@@ -63,6 +64,7 @@ pub fn is_empty(x: meaning::SeqTerm) -> bool
     }
 }
 
+// d - 1, or 0.
 fn one_less(d: u32) -> u32
     ensures { λ r. ⌜ r ≡ d - 1 ⌝ }
 {
@@ -72,6 +74,7 @@ fn one_less(d: u32) -> u32
     d - 1
 }
 
+// The hop into an Empty: one delay less, and none for a hop that refusal 12 rules out.
 fn before_empty(h: meaning::SeqHop) -> meaning::SeqHop
     ensures { λ r. ⌜ r ≡ beforeEmpty h ⌝ }
 {
@@ -114,6 +117,7 @@ pub fn hop_registers(h: meaning::SeqHop) -> u64
     }
 }
 
+// The registers of a term: one a match or tick, and the extension of a nonconsecutive one.
 pub fn term_registers(x: meaning::SeqTerm) -> u64
     ensures { λ r. ⌜ r ≡ termRegisters x ⌝ }
     ensures small { λ r. ⌜ r ≤ 4294967296 ⌝ }
@@ -153,6 +157,7 @@ pub fn term_register(s: meaning::SeqStep, r: u32) -> u32
     r + q as u32
 }
 
+// Whether the text after a hop holds the text before it.
 pub fn hop_keeps(h: meaning::SeqHop) -> bool
     ensures { λ r. ⌜ r ≡ hopKeeps h ⌝ }
 {
@@ -162,6 +167,7 @@ pub fn hop_keeps(h: meaning::SeqHop) -> bool
     }
 }
 
+// Whether the text after a term holds its activation.
 pub fn term_keeps(x: meaning::SeqTerm) -> bool
     ensures { λ r. ⌜ r ≡ termKeeps x ⌝ }
 {
@@ -174,6 +180,7 @@ pub fn term_keeps(x: meaning::SeqTerm) -> bool
     }
 }
 
+// What stands in front of the text that a hop keeps: the latch of an "at least 0".
 pub fn hop_prefix(h: meaning::SeqHop, r: u32, out: &mut [u32], at: usize) -> usize
     requires { ⌜ (at + length (hopPrefix r h) ≤ length (now out)) × (r + hopRegisters h ≤ 65536) ⌝ }
     ensures { λ p. ⌜ Wrote (now (out .entry)) (now (out .exit)) at p (hopPrefix r h) ⌝ }
@@ -184,6 +191,7 @@ pub fn hop_prefix(h: meaning::SeqHop, r: u32, out: &mut [u32], at: usize) -> usi
     }
 }
 
+// What stands behind it.
 pub fn hop_suffix(h: meaning::SeqHop, out: &mut [u32], at: usize) -> usize
     requires { ⌜ at + length (hopSuffix h) ≤ length (now out) ⌝ }
     ensures { λ p. ⌜ Wrote (now (out .entry)) (now (out .exit)) at p (hopSuffix h) ⌝ }
@@ -194,6 +202,7 @@ pub fn hop_suffix(h: meaning::SeqHop, out: &mut [u32], at: usize) -> usize
     }
 }
 
+// The text after a hop that begins anew: its last register, guarded after a fixed hop.
 pub fn hop_base(h: meaning::SeqHop, r: u32, guard: &[u32], out: &mut [u32], at: usize) -> usize
     requires { ⌜ (at + length (hopBase (now guard) r h) ≤ length (now out)) × (r + hopRegisters h ≤ 65536) × (hopKeeps h ≡ false) ⌝ }
     ensures { λ p. ⌜ Wrote (now (out .entry)) (now (out .exit)) at p (hopBase (now (guard .entry)) r h) ⌝ }
@@ -207,6 +216,7 @@ pub fn hop_base(h: meaning::SeqHop, r: u32, guard: &[u32], out: &mut [u32], at: 
     }
 }
 
+// What stands in front of the activation that a term keeps.
 pub fn term_prefix(x: meaning::SeqTerm, r: u32, out: &mut [u32], at: usize) -> usize
     requires { ⌜ (at + length (termPrefix r x) ≤ length (now out)) × (r + termRegisters x ≤ 65536) × (termAtom x < 65536) ⌝ }
     ensures { λ p. ⌜ Wrote (now (out .entry)) (now (out .exit)) at p (termPrefix r x) ⌝ }
@@ -220,6 +230,7 @@ pub fn term_prefix(x: meaning::SeqTerm, r: u32, out: &mut [u32], at: usize) -> u
     }
 }
 
+// What stands behind it.
 pub fn term_suffix(x: meaning::SeqTerm, r: u32, out: &mut [u32], at: usize) -> usize
     requires { ⌜ (at + length (termSuffix r x) ≤ length (now out)) × (r + termRegisters x ≤ 65536) × (termAtom x < 65536) ⌝ }
     ensures { λ p. ⌜ Wrote (now (out .entry)) (now (out .exit)) at p (termSuffix r x) ⌝ }
@@ -241,6 +252,7 @@ pub fn term_suffix(x: meaning::SeqTerm, r: u32, out: &mut [u32], at: usize) -> u
     }
 }
 
+// The text after a machine of two registers or more, which begins anew.
 pub fn term_base(x: meaning::SeqTerm, r: u32, out: &mut [u32], at: usize) -> usize
     requires { ⌜ (at + length (termBase r x) ≤ length (now out)) × (r + termRegisters x ≤ 65536) × (termAtom x < 65536) × (termKeeps x ≡ false) ⌝ }
     ensures { λ p. ⌜ Wrote (now (out .entry)) (now (out .exit)) at p (termBase r x) ⌝ }
@@ -337,6 +349,7 @@ fn goes_on(steps: &[u32], k: usize) -> bool
     false
 }
 
+// A later step's prefix: its term's, then its hop's.
 fn step_prefix(s: meaning::SeqStep, r: u32, out: &mut [u32], at: usize) -> usize
     requires { ⌜ (at + length (stepPrefix r s) ≤ length (now out)) × (r + stepRegisters s ≤ 65536) × (termAtom (s .term) < 65536) ⌝ }
     ensures { λ p. ⌜ Wrote (now (out .entry)) (now (out .exit)) at p (stepPrefix r s) ⌝ }
@@ -348,6 +361,7 @@ fn step_prefix(s: meaning::SeqStep, r: u32, out: &mut [u32], at: usize) -> usize
     hop_prefix(h, r, out, a)
 }
 
+// Its suffix: its hop's, then its term's.
 fn step_suffix(s: meaning::SeqStep, r: u32, out: &mut [u32], at: usize) -> usize
     requires { ⌜ (at + length (stepSuffix r s) ≤ length (now out)) × (r + stepRegisters s ≤ 65536) × (termAtom (s .term) < 65536) ⌝ }
     ensures { λ p. ⌜ Wrote (now (out .entry)) (now (out .exit)) at p (stepSuffix r s) ⌝ }

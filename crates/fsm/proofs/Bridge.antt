@@ -1,18 +1,18 @@
 -- The machines' stores in words are the words of the stores that `sva_fsm.rs` pushes. They assume nothing.
-use mathlib.Core.Path.{_≡_, refl, sym, ap, ap₂, _∙_}
-use mathlib.Core.List.{List, [], _∷_, _++_, append-nil, append-assoc}
-use Prim.Native.Nat.{ℕ, zero, suc, _+_, _*_, _-_, _<_, _≤_}
+use mathlib.Core.Path.{_≡_, refl, ap, ap₂, _∙_}
+use mathlib.Core.List.{List, [], _∷_, _++_, append-assoc}
+use Prim.Native.Nat.{ℕ, zero, suc, _+_}
 use native.Mathlib.Omega.{arith}
 use native.Mathlib.Nat.{add-zero}
-use lib.ListN.{length, length-append}
+use lib.ListN.{length}
 use Rattle.meaning.specs.Tree.{below}
-use Rattle.meaning.specs.Expression.{Expr, a·, r·, zero·, one·, any, not·, and·, or·, Store, gto, ncx, crl}
-use Rattle.meaning.specs.Machines.{bb, nbb, goto-stages, goto-fsm, extension, nonconsec-fsm, run-stages, consec-run-fsm}
+use Rattle.meaning.specs.Expression.{Expr, r·, one·, or·, Store, gto, ncx, crl}
+use Rattle.meaning.specs.Machines.{goto-stages, goto-fsm, extension, nonconsec-fsm, run-stages}
 use Rattle.meaning.specs.Pipeline.{seed}
-use Rattle.meaning.specs.Listing.{word, expression-words, store-words, store-operation}
+use Rattle.meaning.specs.Listing.{expression-words, store-words}
 use Rattle.meaning.specs.declared.SeqTerm.{SeqTerm}
 use Rattle.meaning.specs.declared.SeqTerm.the-variants.{Bool as BoolTerm, Goto, Nonconsec, ConsecAtLeast, Empty}
-use Rattle.current.specs.Text.{atomWord, registerWord, oneWord, anyWord, notWord, andWord, orWord, storeWord, atLeastOne, termText}
+use Rattle.current.specs.Text.{atomWord, registerWord, oneWord, anyWord, notWord, andWord, orWord, storeWord}
 use Rattle.current.proofs.Bridge.{below-is, goto-fsm-count, take-term, term-words}
 use Rattle.fsm.specs.Stores.{gotoStages, gotoStores, nonconsecStores, runStages, termStores}
 

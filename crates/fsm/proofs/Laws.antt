@@ -1,25 +1,19 @@
 -- The stores of the machines, as the code meets them. They assume nothing.
-use mathlib.Core.Path.{_≡_, refl, sym, ap, ap₂, _∙_}
-use mathlib.Core.Bool.{Bool, true, false}
+use mathlib.Core.Path.{_≡_, refl, sym, ap, _∙_}
 use mathlib.Core.List.{List, [], _∷_, _++_, append-nil, append-assoc}
-use Prim.Native.Nat.{ℕ, zero, suc, _+_, _*_, _-_, _<_, _≤_}
+use Prim.Native.Nat.{ℕ, suc, _+_, _-_, _<_, _≤_}
 use native.Mathlib.Omega.{arith}
 use native.Mathlib.Nat.{add-zero, sub-zero}
 use native.Mathlib.Numerals.{add-one}
-use mir.Val.{Fits}
-use mir.Syntax.{w32}
-use lib.Dec.{eqb}
 use lib.ListN.{length, length-append}
-use borrow.Author.Tests.{eqb-true, eqb-false}
-use Rattle.words.specs.Choice.{pick, pick-case}
 use Rattle.words.specs.Written.{Wrote}
 use Rattle.words.proofs.Laws.{Going, begin, go, last, done, same-words}
 use Rattle.term.specs.Steps.{termAtom}
 use Rattle.meaning.specs.Expression.{gto, ncx, crl}
 use Rattle.meaning.specs.declared.SeqTerm.{SeqTerm}
-use Rattle.meaning.specs.declared.SeqTerm.the-variants.{Bool as BoolTerm, Goto, Nonconsec, ConsecAtLeast, Empty}
-use Rattle.current.specs.Text.{atomWord, registerWord, oneWord, anyWord, notWord, andWord, orWord, storeWord, atLeastOne, termRegisters, termText, activationAt}
-use Rattle.current.proofs.Laws.{long, nothing, at-least-some, at-least-itself, same-room, first-room, second-room, both-done, third-room, three-done}
+use Rattle.meaning.specs.declared.SeqTerm.the-variants.{Nonconsec}
+use Rattle.current.specs.Text.{atomWord, registerWord, anyWord, notWord, andWord, orWord, storeWord, atLeastOne, termRegisters, termText}
+use Rattle.current.proofs.Laws.{long, at-least-some, at-least-itself, same-room, first-room, second-room, both-done, third-room, three-done}
 use Rattle.fsm.specs.Stores.{gotoStages, gotoStores, nonconsecStores, runStages, termStores}
 
 -- An activation among words.

@@ -1,8 +1,7 @@
 -- The stores of the three machines in words, from the words of their activation (01: sva_fsm.rs; `crates/meaning/specs/Machines.antt`).
 -- Example: `b[->1]` led by constant one stores `r0 1 or a1 any not and` into register 0.
 use mathlib.Core.List.{List, [], _∷_, _++_}
-use Prim.Native.Nat.{ℕ, zero, suc, _+_, _*_, _-_, _<_, _≤_}
-use lib.ListN.{length}
+use Prim.Native.Nat.{ℕ, zero, suc, _+_, _-_}
 use Rattle.meaning.specs.Expression.{gto, ncx, crl}
 use Rattle.meaning.specs.declared.SeqTerm.{SeqTerm}
 use Rattle.meaning.specs.declared.SeqTerm.the-variants.{Bool as BoolTerm, Goto, Nonconsec, ConsecAtLeast, Empty}

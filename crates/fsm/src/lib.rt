@@ -2,7 +2,6 @@
 // The k-th step's first register is r, the first of its term q. A leading term is the 0-th step's, activated by constant one.
 //
 // Example: `b[->2]` stores r0 1 or a1 any not and, then a1 any r0 1 or and a1 any not r1 and or.
-ghost use mathlib.Core.Path.{_≡_};
 ghost use mathlib.Core.List.{[], _∷_, _++_};
 ghost use Prim.Native.Nat.{_+_, _*_, _-_, _≤_, _<_};
 ghost use lib.ListN.{length};

@@ -1,22 +1,20 @@
 -- What `stores` writes is the words of the stores that `synth_seq_pipeline` pushes: `the-stores-are-the-words`. It assumes nothing.
 use mathlib.Core.Path.{_≡_, refl, sym, ap, ap₂, _∙_}
-use mathlib.Core.List.{List, [], _∷_, _++_, append-nil, append-assoc}
-use Prim.Native.Nat.{ℕ, zero, suc, _+_, _*_, _-_, _<_, _≤_}
+use mathlib.Core.List.{List, [], _∷_, _++_, append-assoc}
+use Prim.Native.Nat.{ℕ, zero, suc, _+_, _-_, _<_}
 use native.Mathlib.Omega.{arith}
 use native.Mathlib.Nat.{add-zero}
-use lib.Dec.{ltb}
-use lib.ListN.{length, length-append}
+use lib.ListN.{length}
 use borrow.Author.Tests.{lt-ltb, le-ltb}
-use Rattle.words.specs.Choice.{pick, pick-true, pick-false}
-use Rattle.meaning.specs.Expression.{Expr, a·, r·, zero·, one·, any, not·, and·, or·, Store, Synth, seq, arm}
-use Rattle.meaning.specs.Alternative.{Guard, unguarded, guard}
+use Rattle.words.specs.Choice.{pick-true, pick-false}
+use Rattle.meaning.specs.Expression.{Expr, r·, Synth, seq, arm}
+use Rattle.meaning.specs.Alternative.{Guard, unguarded}
 use Rattle.meaning.specs.Pipeline.{guard-and, delays, latch, hop-over, seed, later, laters, synth-seq-pipeline}
-use Rattle.meaning.specs.Listing.{word, expression-words, store-words, store-operation}
+use Rattle.meaning.specs.Listing.{expression-words, store-words}
 use Rattle.meaning.specs.declared.SeqHop.{SeqHop}
 use Rattle.meaning.specs.declared.SeqHop.the-variants.{Fixed, AtLeast}
 use Rattle.meaning.specs.declared.SeqStep.{SeqStep}
 use Rattle.current.specs.Text.{registerWord, orWord, oneWord, storeWord, guardWords, nthStep, Stored, reach, hopRegisters, registersAt, registersBefore, hopText, textAt, activationAt}
-use Rattle.current.specs.Walk.{textBefore}
 use Rattle.current.proofs.Bridge.{guarded-words, delays-count, delays-words, hop-count, hop-words, take-term, later-parts, register-next, step-words, step-count, first-words, first-count}
 use Rattle.fsm.specs.Stores.{termStores}
 use Rattle.fsm.proofs.Bridge.{stores-append, term-stores, seed-stores}

@@ -11,7 +11,7 @@ use borrow.Author.Tests.{lt-ltb, not-true, not-false}
 use Rattle.words.specs.Choice.{pick, pick-true, pick-false}
 use Rattle.meaning.specs.Refusals.{is-empty, fixed-from-1, empties-fit, steps-fit}
 use Rattle.meaning.specs.declared.SeqHop.{SeqHop}
-use Rattle.meaning.specs.declared.SeqHop.the-variants.{Fixed, AtLeast}
+use Rattle.meaning.specs.declared.SeqHop.the-variants.{Fixed}
 use Rattle.meaning.specs.declared.SeqStep.{SeqStep}
 use Rattle.current.specs.Text.{nthStep, Stored, registersAt, registersBefore}
 use Rattle.current.proofs.Walk.{registers-more}

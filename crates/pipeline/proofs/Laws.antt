@@ -1,39 +1,27 @@
 -- The stores of a hop, of a step and of an alternative, as the code meets them. They assume nothing.
 -- ts are the words of the steps, G those of the guard, E a text before a hop.
-use mathlib.Core.Path.{_≡_, refl, sym, ap, ap₂, _∙_}
-use mathlib.Core.Bool.{Bool, true, false}
-use mathlib.Core.List.{List, [], _∷_, _++_, append-nil, append-assoc}
-use Prim.Native.Nat.{ℕ, zero, suc, _+_, _*_, _-_, _<_, _≤_}
+use mathlib.Core.Path.{_≡_, refl, sym, ap, _∙_}
+use mathlib.Core.List.{List, [], _∷_, _++_, append-assoc}
+use Prim.Native.Nat.{ℕ, suc, _+_, _*_, _-_, _<_, _≤_}
 use native.Mathlib.Omega.{arith}
 use native.Mathlib.Nat.{add-zero, sub-zero}
 use native.Mathlib.Numerals.{add-one}
-use mir.Val.{Fits}
-use mir.Syntax.{w32}
-use lib.Dec.{eqb, ltb}
 use lib.ListN.{length, length-append}
-use borrow.Author.Tests.{lt-ltb, le-ltb, ne-eqb, eqb-false}
-use Rattle.words.specs.Choice.{pick, pick-true, pick-false}
+use borrow.Author.Tests.{lt-ltb, le-ltb}
+use Rattle.words.specs.Choice.{pick-true, pick-false}
 use Rattle.words.specs.Written.{Wrote}
-use Rattle.words.proofs.Laws.{Going, begin, go, last, done, same-words}
+use Rattle.words.proofs.Laws.{Going, begin, go, done, same-words}
 use Rattle.term.specs.Steps.{termAtom}
 use Rattle.meaning.specs.Expression.{seq, arm}
-use Rattle.meaning.specs.declared.SeqTerm.{SeqTerm}
 use Rattle.meaning.specs.declared.SeqHop.{SeqHop}
-use Rattle.meaning.specs.declared.SeqHop.the-variants.{Fixed, AtLeast}
+use Rattle.meaning.specs.declared.SeqHop.the-variants.{AtLeast}
 use Rattle.meaning.specs.declared.SeqStep.{SeqStep}
-use Rattle.current.specs.Text.{registerWord, orWord, oneWord, storeWord, nthStep, reach, atLeastOne, hopRegisters, termRegisters, stepRegisters, registersAt, registersBefore, activationAt}
+use Rattle.current.specs.Text.{registerWord, orWord, oneWord, storeWord, nthStep, reach, hopRegisters, termRegisters, stepRegisters, registersAt, registersBefore, activationAt}
 use Rattle.current.specs.Walk.{textBefore, Ready}
 use Rattle.current.proofs.Laws.{long, nothing, at-least-some, at-least-itself, same-room, first-room, second-room, both-done, third-room, three-done}
 use Rattle.current.proofs.Walk.{registers-more, registers-less, registers-grow, later-registers, lead-registers}
 use Rattle.fsm.specs.Stores.{termStores}
 use Rattle.pipeline.specs.Stores.{delayStores, hopStores, stepStores, storesAfter, alternativeStores, ReadyAll}
-
--- A text among words.
-pub after-one : {o o₁ o₂ o₃ A ws : List ℕ} {at a c p x : ℕ} → Wrote o o₁ at a (x ∷ []) → Wrote o₁ o₂ a c A → Wrote o₂ o₃ c p ws → Wrote o o₃ at p (x ∷ (A ++ ws))
-after-one u v w = three-done refl u v w
-
-pub before-words : {o o₁ o₂ A ws : List ℕ} {at a p : ℕ} → Wrote o o₁ at a A → Wrote o₁ o₂ a p ws → Wrote o o₂ at p (A ++ ws)
-before-words u v = both-done refl u v
 
 -- The loop of `delays`: i of them are written.
 abbrev delayWords : List ℕ → ℕ → List ℕ

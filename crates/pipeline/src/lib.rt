@@ -7,10 +7,9 @@ ghost use mathlib.Core.List.{[], _∷_, _++_};
 ghost use Prim.Native.Nat.{_+_, _*_, _-_, _≤_, _<_};
 ghost use lib.ListN.{length};
 ghost use Rattle.words.specs.Written.{Wrote};
-ghost use Rattle.term.specs.Steps.{termAtom};
 ghost use Rattle.meaning.specs.Expression.{seq, arm};
 ghost use Rattle.meaning.specs.declared.SeqHop.the-variants.{AtLeast};
-ghost use Rattle.current.specs.Text.{registerWord, orWord, storeWord, nthStep, hopRegisters, registersAt, registersBefore};
+ghost use Rattle.current.specs.Text.{registerWord, orWord, storeWord, hopRegisters, registersBefore};
 ghost use Rattle.current.specs.Walk.{textBefore, Ready};
 ghost use mathlib.Core.Bool.{«false»};
 ghost use Rattle.meaning.specs.Refusals.{fixed-from-1, empties-fit, steps-fit};
@@ -103,6 +102,7 @@ fn late_latch(
     )
 }
 
+// The stores of an "at least m" hop.
 fn at_least(
     steps: &[u32],
     guard: &[u32],
@@ -188,6 +188,7 @@ pub fn stores(
     laters(steps, guard, count, n, out, a)
 }
 
+// Whether a hop is "fixed >= 1".
 fn fixed_from_one(h: meaning::SeqHop) -> bool
     ensures { λ r. ⌜ r ≡ fixed-from-1 h ⌝ }
 {

@@ -1,11 +1,10 @@
 -- Bounds that keep the sums within 64 bits, and the loop over the steps. They assume nothing.
-use mathlib.Core.Path.{_≡_, refl, sym, ap, ap₂, _∙_}
-use mathlib.Core.Bool.{Bool, true, false}
-use mathlib.Core.List.{List, [], _∷_}
+use mathlib.Core.Path.{_≡_, refl, ap, ap₂, _∙_}
+use mathlib.Core.Bool.{Bool}
+use mathlib.Core.List.{List}
 use Prim.Native.Nat.{ℕ, zero, suc, _+_, _*_, _-_, _<_, _≤_}
 use native.Mathlib.Omega.{arith}
 use native.Mathlib.Nat.{mul-le-mul}
-use native.Mathlib.Numerals.{add-one}
 use mir.Val.{Fits}
 use mir.Syntax.{w64}
 use lib.Dec.{eqb, ltb}
@@ -17,7 +16,7 @@ use Rattle.meaning.specs.declared.SeqTerm.the-variants.{Bool as BoolTerm, Goto,
 use Rattle.meaning.specs.declared.SeqHop.{SeqHop}
 use Rattle.meaning.specs.declared.SeqHop.the-variants.{Fixed, AtLeast}
 use Rattle.meaning.specs.declared.SeqStep.{SeqStep}
-use Rattle.current.specs.Text.{nthStep, reach, atLeastOne, hopRegisters, termRegisters, stepRegisters, registersAt, registersBefore}
+use Rattle.current.specs.Text.{nthStep, reach, atLeastOne, hopRegisters, termRegisters, stepRegisters, registersAt}
 use Rattle.current.proofs.Laws.{at-least-itself, term-count-small}
 use Rattle.current.proofs.Walk.{registers-more, registers-grow, later-registers, lead-registers}
 use Rattle.sizes.specs.Sizes.{hopTextSize, termTextSize, leadTextSize, delaysSize, hopStoresSize, gotoSize, runSize, termStoresSize, stepSize, firstSize, sizeAt, Countable}

@@ -2,25 +2,22 @@
 use mathlib.Core.Path.{_≡_, refl, sym, ap, ap₂, _∙_}
 use mathlib.Core.Bool.{Bool, true, false}
 use mathlib.Core.List.{List, [], _∷_, _++_}
-use Prim.Native.Nat.{ℕ, zero, suc, _+_, _*_, _-_, _<_, _≤_}
+use Prim.Native.Nat.{ℕ, zero, suc, _+_, _*_, _-_}
 use native.Mathlib.Omega.{arith}
 use native.Mathlib.Nat.{add-zero, zero-add, suc-mul, zero-mul}
 use lib.Dec.{eqb, ltb}
 use lib.ListN.{length, length-append}
-use borrow.Author.Tests.{lt-ltb, le-ltb, ltb-true, ltb-false, ne-eqb}
-use Rattle.words.specs.Choice.{pick, pick-true, pick-false, pick-cong}
+use borrow.Author.Tests.{ltb-true, ltb-false, ne-eqb}
+use Rattle.words.specs.Choice.{pick, pick-true, pick-false}
 use Rattle.meaning.specs.Expression.{seq, arm, gto, ncx, crl}
 use Rattle.meaning.specs.declared.SeqTerm.{SeqTerm}
 use Rattle.meaning.specs.declared.SeqTerm.the-variants.{Bool as BoolTerm, Goto, Nonconsec, ConsecAtLeast, Empty}
 use Rattle.meaning.specs.declared.SeqHop.{SeqHop}
 use Rattle.meaning.specs.declared.SeqHop.the-variants.{Fixed, AtLeast}
-use Rattle.meaning.specs.declared.SeqStep.{SeqStep}
 use Rattle.current.specs.Text.{atomWord, registerWord, oneWord, anyWord, notWord, andWord, orWord, storeWord, nthStep, reach, atLeastOne, hopRegisters, registersAt, hopKeeps, termKeeps, hopPrefix, hopSuffix, termPrefix, termSuffix, hopBase, termBase, hopText, termText, stepText, leadText, textAt, activationAt}
-use Rattle.current.specs.Walk.{textBefore}
 use Rattle.fsm.specs.Stores.{gotoStages, gotoStores, nonconsecStores, runStages, termStores}
 use Rattle.pipeline.specs.Stores.{delayStores, hopStores, stepStores, storesAfter, alternativeStores}
 use Rattle.sizes.specs.Sizes.{hopTextSize, termTextSize, leadTextSize, delaysSize, hopStoresSize, gotoSize, runSize, termStoresSize, stepSize, firstSize, sizeAt}
-use Rattle.sizes.specs.declared.Size.{Size}
 
 -- The length of a choice.
 length-pick : (b : Bool) (x y : List ℕ) {m n : ℕ} → length x ≡ m → length y ≡ n → length (pick b x y) ≡ pick b m n

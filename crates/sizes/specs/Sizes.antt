@@ -1,8 +1,8 @@
 -- How many words an alternative's expression and stores take, by arithmetic on its steps: refusal 14 is decided before a word is written.
 -- g is the number of the guard's words, e that of the text before a hop, a that of an activation.
 -- Example: `a ##2 b` without a guard: stores 3 + 2 words, expression 4 words.
-use mathlib.Core.List.{List, [], _∷_}
-use Prim.Native.Nat.{ℕ, zero, suc, _+_, _*_, _-_, _<_, _≤_}
+use mathlib.Core.List.{List}
+use Prim.Native.Nat.{ℕ, zero, suc, _+_, _*_, _-_, _≤_}
 use lib.Dec.{eqb, ltb}
 use lib.ListN.{length}
 use Rattle.words.specs.Choice.{pick}

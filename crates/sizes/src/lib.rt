@@ -34,6 +34,7 @@ fn less(x: u64, y: u64) -> u64
     x - y
 }
 
+// The text after a hop; g are the words of the guard, e those of the text before.
 fn hop_text(h: meaning::SeqHop, g: u64, e: u64) -> u64
     requires { ⌜ (g ≤ 1048576) × (e ≤ 4194304) ⌝ }
     ensures { λ r. ⌜ r ≡ hopTextSize g h e ⌝ }
@@ -44,6 +45,7 @@ fn hop_text(h: meaning::SeqHop, g: u64, e: u64) -> u64
     }
 }
 
+// The text after a term; a are the words of its activation.
 fn term_text(x: meaning::SeqTerm, a: u64) -> u64
     requires { ⌜ a ≤ 8388608 ⌝ }
     ensures { λ r. ⌜ r ≡ termTextSize x a ⌝ }
@@ -57,6 +59,7 @@ fn term_text(x: meaning::SeqTerm, a: u64) -> u64
     }
 }
 
+// The text after the first term.
 fn lead_text(x: meaning::SeqTerm) -> u64
     ensures { λ r. ⌜ r ≡ leadTextSize x ⌝ }
 {
@@ -69,6 +72,7 @@ fn lead_text(x: meaning::SeqTerm) -> u64
     }
 }
 
+// The stores of d delays.
 fn delays(g: u64, d: u64, e: u64) -> u64
     requires { ⌜ (g ≤ 1048576) × (d ≤ 65536) × (e ≤ 4194304) ⌝ }
     ensures { λ r. ⌜ r ≡ delaysSize g d e ⌝ }
@@ -77,6 +81,7 @@ fn delays(g: u64, d: u64, e: u64) -> u64
     either(d == 0, 0, e + 1 + others)
 }
 
+// The stores of a hop.
 fn hop_stores(h: meaning::SeqHop, g: u64, e: u64) -> u64
     requires { ⌜ (g ≤ 1048576) × (hopRegisters h ≤ 65536) × (e ≤ 4194304) ⌝ }
     ensures { λ r. ⌜ r ≡ hopStoresSize g h e ⌝ }
@@ -90,6 +95,7 @@ fn hop_stores(h: meaning::SeqHop, g: u64, e: u64) -> u64
     }
 }
 
+// The stores of a goto.
 fn goto_size(k: u64, a: u64) -> u64
     requires { ⌜ (k ≤ 4294967295) × (a ≤ 8388608) ⌝ }
     ensures { λ r. ⌜ r ≡ gotoSize k a ⌝ }
@@ -98,6 +104,7 @@ fn goto_size(k: u64, a: u64) -> u64
     either(k < 2, a + 7, a + 7 + (a + 12) + stages)
 }
 
+// The stores of an "at least" repetition.
 fn run_size(k: u64, a: u64) -> u64
     requires { ⌜ (k ≤ 4294967295) × (a ≤ 8388608) ⌝ }
     ensures { λ r. ⌜ r ≡ runSize k a ⌝ }
@@ -106,6 +113,7 @@ fn run_size(k: u64, a: u64) -> u64
     either(k < 2, a + 6, a + 4 + stages + 7)
 }
 
+// The stores of a nonconsecutive repetition x of count k: the goto's, and its extension.
 fn nonconsec_size(x: meaning::SeqTerm, k: u64, a: u64) -> u64
     requires { ⌜ (k ≤ 4294967295) × (a ≤ 8388608) ⌝ }
     ensures { λ r. ⌜ r ≡ gotoSize k a + termTextSize x a + 1 ⌝ }
@@ -115,6 +123,7 @@ fn nonconsec_size(x: meaning::SeqTerm, k: u64, a: u64) -> u64
     first + text + 1
 }
 
+// The stores of a term.
 fn term_stores(x: meaning::SeqTerm, a: u64) -> u64
     requires { ⌜ a ≤ 8388608 ⌝ }
     ensures { λ r. ⌜ r ≡ termStoresSize x a ⌝ }
@@ -143,6 +152,7 @@ fn step_size(s: meaning::SeqStep, g: u64, z: Size) -> Size
     }
 }
 
+// The first term, with its guard.
 fn first_size(x: meaning::SeqTerm, g: u64) -> Size
     requires { ⌜ g ≤ 1048576 ⌝ }
     ensures { λ r. ⌜ r ≡ firstSize g x ⌝ }

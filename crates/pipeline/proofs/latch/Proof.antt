@@ -1,4 +1,4 @@
-use Rattle.pipeline.proofs.Laws.{after-one}
+use Rattle.fsm.proofs.Laws.{after-one}
 use borrow.Author.Needs.{needs}
 use Rattle.pipeline.proofs.latch.Statement.{statement}
 use Rattle.pipeline.proofs.latch.Tie as tie

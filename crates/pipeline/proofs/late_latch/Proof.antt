@@ -1,4 +1,4 @@
-use Rattle.pipeline.proofs.Laws.{before-words}
+use Rattle.fsm.proofs.Laws.{before-words}
 use borrow.Author.Needs.{needs}
 use Rattle.pipeline.proofs.late_latch.Statement.{statement}
 use Rattle.pipeline.proofs.late_latch.Tie as tie

@@ -1,17 +1,17 @@
 // Tables that are refused with 1, 2 or 3: the number and the place. The file `stdout` holds what 01 says of each.
-use trees_shown::A;
-use trees_shown::A_THEN_B;
-use trees_shown::B;
+use small_trees::A;
+use small_trees::A_THEN_B;
+use small_trees::B;
+use small_trees::consec;
+use small_trees::delay;
+use small_trees::goto;
+use small_trees::node;
+use small_trees::nonconsec;
+use small_trees::throughout;
 use trees_shown::LARGE;
-use trees_shown::consec;
-use trees_shown::delay;
 use trees_shown::four;
-use trees_shown::goto;
-use trees_shown::node;
-use trees_shown::nonconsec;
 use trees_shown::show;
 use trees_shown::three;
-use trees_shown::throughout;
 use trees_shown::two;
 
 // 1, of the whole table: no word, 14 words, 4,097 nodes.

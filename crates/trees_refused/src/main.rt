@@ -1,26 +1,26 @@
 // Trees that the walk refuses, with 4 to 11, and 01's limits on both sides: the number and the place. The file `stdout` holds what 01
 // says of each.
 ghost use Prim.Native.Nat.{_≤_};
-use trees_shown::A;
-use trees_shown::A_THEN_B;
-use trees_shown::B;
-use trees_shown::C;
+use small_trees::A;
+use small_trees::A_THEN_B;
+use small_trees::B;
+use small_trees::C;
+use small_trees::consec;
+use small_trees::delay;
+use small_trees::goto;
+use small_trees::node;
+use small_trees::nonconsec;
+use small_trees::put;
+use small_trees::throughout;
+use small_trees::within;
 use trees_shown::LARGE;
-use trees_shown::consec;
-use trees_shown::delay;
 use trees_shown::five;
 use trees_shown::four;
-use trees_shown::goto;
-use trees_shown::node;
-use trees_shown::nonconsec;
-use trees_shown::put;
 use trees_shown::seven;
 use trees_shown::show;
 use trees_shown::six;
 use trees_shown::three;
-use trees_shown::throughout;
 use trees_shown::two;
-use trees_shown::within;
 
 // c throughout over itself, over a: as many nodes as the table has.
 fn throughouts(t: &mut [u32]) {

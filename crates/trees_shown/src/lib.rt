@@ -1,77 +1,9 @@
-// Trees built of nodes, and what is decided of each before an alternative is looked at, said in a line: the tree's name, then
+// What is decided of a tree before an alternative is looked at, said in a line: the tree's name, then
 // `refused`, number and place, or `counted`, alternatives and entries. For the programs that compare such lines with what 01 says.
 //
 // Example: `two(b"a[*0]", LARGE, A, consec(0, 0, 0))` prints `a[*0]: counted 1 1`.
 // Work that gives the largest room, 65,536 entries.
 pub const LARGE: usize = 1048576;
-
-// The five words of a node, and below each kind's own; operands are node numbers.
-pub fn node(kind: u32, p: u32, q: u32, min: u32, max: u32) -> meaning::Node {
-    meaning::Node {
-        kind: kind,
-        p: p,
-        q: q,
-        min: min,
-        max: max,
-    }
-}
-
-// a, b, c and a ##1 b, the latter over nodes 0 and 1.
-pub const A: meaning::Node = meaning::Node {
-    kind: 1,
-    p: 0,
-    q: 0,
-    min: 0,
-    max: 0,
-};
-
-pub const B: meaning::Node = meaning::Node {
-    kind: 1,
-    p: 1,
-    q: 0,
-    min: 0,
-    max: 0,
-};
-
-pub const C: meaning::Node = meaning::Node {
-    kind: 1,
-    p: 2,
-    q: 0,
-    min: 0,
-    max: 0,
-};
-
-pub const A_THEN_B: meaning::Node = meaning::Node {
-    kind: 2,
-    p: 0,
-    q: 1,
-    min: 1,
-    max: 1,
-};
-
-pub fn delay(left: u32, right: u32, min: u32, max: u32) -> meaning::Node {
-    node(2, left, right, min, max)
-}
-
-pub fn consec(under: u32, min: u32, max: u32) -> meaning::Node {
-    node(3, under, 0, min, max)
-}
-
-pub fn goto(under: u32, count: u32) -> meaning::Node {
-    node(4, under, 0, count, count)
-}
-
-pub fn nonconsec(under: u32, count: u32) -> meaning::Node {
-    node(5, under, 0, count, count)
-}
-
-pub fn throughout(condition: u32, under: u32) -> meaning::Node {
-    node(6, condition, under, 0, 0)
-}
-
-pub fn within(seq1: u32, seq2: u32) -> meaning::Node {
-    node(7, seq1, seq2, 0, 0)
-}
 
 // What became of the tree, and two numbers.
 fn say(outcome: &[u8], a: u32, b: u32) {
@@ -104,32 +36,14 @@ pub fn show(name: &[u8], work: usize, t: &[u32]) {
     }
 }
 
-// Puts the words of node n, if the table has it.
-pub fn put(t: &mut [u32], n: u32, v: meaning::Node) {
-    let i = n as usize * 5;
-    if t.len() < i + 5 {
-        return;
-    }
-    let p = words::put(t, i, v.kind);
-    let q = words::put(t, p, v.p);
-    let min = words::put(t, q, v.q);
-    let max = words::put(t, min, v.min);
-    words::put(t, max, v.max);
-}
-
-// A tree of so many nodes, the last of them the root.
+// A tree of so many nodes.
 pub fn two(name: &[u8], work: usize, a: meaning::Node, b: meaning::Node) {
-    let mut t = [0u32; 10];
-    put(&mut t, 0, a);
-    put(&mut t, 1, b);
+    let t = small_trees::of_two(a, b);
     show(name, work, &t);
 }
 
 pub fn three(name: &[u8], work: usize, a: meaning::Node, b: meaning::Node, c: meaning::Node) {
-    let mut t = [0u32; 15];
-    put(&mut t, 0, a);
-    put(&mut t, 1, b);
-    put(&mut t, 2, c);
+    let t = small_trees::of_three(a, b, c);
     show(name, work, &t);
 }
 
@@ -141,11 +55,7 @@ pub fn four(
     c: meaning::Node,
     d: meaning::Node,
 ) {
-    let mut t = [0u32; 20];
-    put(&mut t, 0, a);
-    put(&mut t, 1, b);
-    put(&mut t, 2, c);
-    put(&mut t, 3, d);
+    let t = small_trees::of_four(a, b, c, d);
     show(name, work, &t);
 }
 
@@ -158,12 +68,7 @@ pub fn five(
     d: meaning::Node,
     e: meaning::Node,
 ) {
-    let mut t = [0u32; 25];
-    put(&mut t, 0, a);
-    put(&mut t, 1, b);
-    put(&mut t, 2, c);
-    put(&mut t, 3, d);
-    put(&mut t, 4, e);
+    let t = small_trees::of_five(a, b, c, d, e);
     show(name, work, &t);
 }
 
@@ -177,13 +82,7 @@ pub fn six(
     e: meaning::Node,
     f: meaning::Node,
 ) {
-    let mut t = [0u32; 30];
-    put(&mut t, 0, a);
-    put(&mut t, 1, b);
-    put(&mut t, 2, c);
-    put(&mut t, 3, d);
-    put(&mut t, 4, e);
-    put(&mut t, 5, f);
+    let t = small_trees::of_six(a, b, c, d, e, f);
     show(name, work, &t);
 }
 
@@ -198,13 +97,6 @@ pub fn seven(
     f: meaning::Node,
     g: meaning::Node,
 ) {
-    let mut t = [0u32; 35];
-    put(&mut t, 0, a);
-    put(&mut t, 1, b);
-    put(&mut t, 2, c);
-    put(&mut t, 3, d);
-    put(&mut t, 4, e);
-    put(&mut t, 5, f);
-    put(&mut t, 6, g);
+    let t = small_trees::of_seven(a, b, c, d, e, f, g);
     show(name, work, &t);
 }

@@ -1,0 +1,4 @@
+pub mod MapLaws
+pub mod RowLaws
+pub mod Frame
+pub mod OneOutcome

@@ -1,0 +1,209 @@
+-- One alternative of seq1 beside one of seq2, as the code meets it: skipped where its window k is above l, else its
+-- assignments, its delays and its text. Each law has its premises in the order in which the code learns them.
+use mathlib.Core.Path.{_≡_, refl, sym, ap, _∙_}
+use mathlib.Core.Bool.{Bool, true, false}
+use mathlib.Core.List.{List, [], _∷_, _++_, append-assoc}
+use Prim.Native.Nat.{ℕ, zero, suc, _+_, _*_, _-_, _<_, _≤_}
+use native.Mathlib.Numerals.{add-one}
+use native.Mathlib.Omega.{arith}
+use mir.Val.{Fits}
+use mir.Syntax.{w32}
+use lib.Dec.{leb}
+use lib.ListN.{length, take, length-append}
+use lib.Seq.{length-take-le}
+use borrow.Author.Tests.{le-leb, lt-leb, eq-eqb, ne-eqb}
+use Rattle.words.specs.Choice.{pick, pick-true, pick-false}
+use Rattle.words.specs.Written.{Wrote}
+use Rattle.words.proofs.Laws.{begin, go, last, done, same-words, length-written}
+use Rattle.meaning.specs.Listing.{word}
+use Rattle.meaning.specs.Root.{window-len}
+use Rattle.meaning.specs.declared.SeqStep.{SeqStep}
+use Rattle.pipeline.specs.Stores.{delayStores}
+use Rattle.pair.specs.Pairs.{registers-in, stores-in, text-in, fits-in, further, delay-texts, pair-registers, pair-stores, pair-text, joining, taken-registers, taken-stores, taken-text}
+use Rattle.pair.proofs.Delays.{length-delays, length-ored}
+
+-- What was written into a slice has not changed its length.
+pub still-long : {o o′ : List ℕ} {at r : ℕ} {ws : List ℕ} → Wrote o o′ at r ws → length o′ ≡ length o
+still-long {o} {at = at} {ws = ws} w = ap length (w .holds) ∙ length-written o at ws
+
+pub nothing : (o : List ℕ) (at : ℕ) → Wrote o o at at []
+nothing o at = done (begin o at [])
+
+-- The assignments of d delays of a text, from register r on.
+pub no-delays : (r : ℕ) {d : ℕ} (text o : List ℕ) (at : ℕ) → d ≡ 0 → Wrote o o at at (delayStores [] r d text)
+unfolding delayStores
+no-delays r text o at e = rw e (nothing o at)
+
+module _ (r d : ℕ) (text : List ℕ) (some : d ≡ 0 → ⊥) where
+  first-delay : delayStores [] r d text ≡ text ++ (word 9 r ∷ delayStores [] (r + 1) (d - 1) (word 2 r ∷ []))
+  unfolding delayStores
+  first-delay = let e : d ≡ suc (d - 1) = omega arith in rw (add-one r) (ap (λ (k : ℕ). delayStores [] r k text) e)
+
+  pub delays-long : length (delayStores [] r d text) ≡ length text + (1 + 2 * (d - 1))
+  delays-long =
+      ap length first-delay
+      ∙ omega (arith, length-append text (word 9 r ∷ delayStores [] (r + 1) (d - 1) (word 2 r ∷ [])), length-delays (r + 1) r (d - 1))
+
+  module _ (at : ℕ) (o : List ℕ) (room : at + length (delayStores [] r d text) ≤ length o) where
+    pub delayed-room : at + length text ≤ length o
+    delayed-room = omega (arith, delays-long)
+
+    module _ {a : ℕ} {o₁ : List ℕ} (w : Wrote o o₁ at a text) where
+      pub delay-store-room : a < length o₁
+      delay-store-room = omega (arith, delays-long, w .ends, still-long w)
+
+      pub later-delays-room : {b v : ℕ} {o₂ : List ℕ} → Wrote o₁ o₂ a b (v ∷ []) → b + 2 * (d - 1) ≤ length o₂
+      later-delays-room x = omega (arith, delays-long, w .ends, still-long w, x .ends, still-long x)
+
+  pub delays-done : {at a b p : ℕ} {o o₁ o₂ o₃ : List ℕ} → Wrote o o₁ at a text → Wrote o₁ o₂ a b (word 9 r ∷ [])
+      → Wrote o₂ o₃ b p (delayStores [] (r + 1) (d - 1) (word 2 r ∷ [])) → Wrote o o₃ at p (delayStores [] r d text)
+  delays-done w x y = same-words (sym first-delay) (last (go (word 9 r ∷ []) _ (go text _ (begin _ _ _) w) x) y)
+
+-- An alternative that does not fit takes nothing.
+module _ (l : ℕ) (ss : List SeqStep) {k : ℕ} (e : k ≡ window-len ss) (above : l < k) where
+  pub not-in : fits-in l ss ≡ false
+  unfolding fits-in
+  not-in = lt-leb (window-len ss) l (rw (← e) above)
+
+  pub skipped-registers : 0 ≡ taken-registers l ss
+  unfolding taken-registers
+  skipped-registers = sym (pick-false _ _ not-in)
+
+  pub skipped-stores : (n : ℕ) (o : List ℕ) (at : ℕ) → Wrote o o at at (taken-stores l ss n)
+  unfolding taken-stores
+  skipped-stores n o at = same-words (sym (pick-false _ _ not-in)) (nothing o at)
+
+  pub skipped-text : (before : ℕ) (match-2 : List ℕ) (n : ℕ) (o : List ℕ) (at : ℕ) → Wrote o o at at (taken-text before l match-2 ss n)
+  unfolding taken-text
+  skipped-text before match-2 n o at = same-words (sym (pick-false _ _ not-in)) (nothing o at)
+
+-- One that fits takes its own registers and l - k further ones.
+module _ (l : ℕ) (ss : List SeqStep) {k : ℕ} (e : k ≡ window-len ss) (below : k ≤ l) where
+  pub is-in : fits-in l ss ≡ true
+  unfolding fits-in
+  is-in = le-leb (window-len ss) l (rw (← e) below)
+
+  registers-are : taken-registers l ss ≡ registers-in ss + (l - k)
+  unfolding taken-registers pair-registers further
+  registers-are = pick-true _ _ is-in ∙ rw e refl
+
+  stores-are : (n : ℕ) → taken-stores l ss n ≡ stores-in ss n ++ delayStores [] (n + registers-in ss) (l - k) (text-in ss n)
+  unfolding taken-stores pair-stores further
+  stores-are n = pick-true _ _ is-in ∙ rw e refl
+
+  text-is : (before : ℕ) (match-2 : List ℕ) (n : ℕ)
+      → taken-text before l match-2 ss n ≡ match-2 ++ ((text-in ss n ++ delay-texts (n + registers-in ss) (l - k)) ++ (word 7 0 ∷ joining before))
+  unfolding taken-text pair-text further
+  text-is before match-2 n = pick-true _ _ is-in ∙ rw e (simp append-assoc)
+
+  module _ (n : ℕ) (small : n + taken-registers l ss ≤ 65536) where
+    pub own-registers-small : n + registers-in ss ≤ 65536
+    own-registers-small = omega (arith, registers-are)
+
+    pub further-fits : Fits w32 (l - k)
+    further-fits = omega (arith, registers-are)
+
+    pub all-registers-small : n + registers-in ss + (l - k) ≤ 65536
+    all-registers-small = omega (arith, registers-are)
+
+    module _ {own : ℕ} (q : own ≡ registers-in ss) where
+      pub own-fits : Fits w32 own
+      own-fits = omega (arith, registers-are)
+
+      pub next-register-fits : Fits w32 (n + own)
+      next-register-fits = omega (arith, registers-are)
+
+      pub further-small : n + own + (l - k) ≤ 65536
+      further-small = omega (arith, registers-are)
+
+  module _ {own : ℕ} (q : own ≡ registers-in ss) where
+    pub taken-registers-are : own + (l - k) ≡ taken-registers l ss
+    taken-registers-are = omega (arith, registers-are)
+
+    module _ (n : ℕ) where
+      stores-with : taken-stores l ss n ≡ stores-in ss n ++ delayStores [] (n + own) (l - k) (text-in ss n)
+      stores-with = stores-are n ∙ rw q refl
+
+      stores-long : length (taken-stores l ss n) ≡ length (stores-in ss n) + length (delayStores [] (n + own) (l - k) (text-in ss n))
+      stores-long = ap length stores-with ∙ length-append (stores-in ss n) _
+
+      module _ (at : ℕ) (o : List ℕ) (room : at + length (taken-stores l ss n) ≤ length o) where
+        pub own-stores-room : at + length (stores-in ss n) ≤ length o
+        own-stores-room = omega (arith, stores-long)
+
+        pub slide-stores-room : {a : ℕ} {o₁ : List ℕ} → Wrote o o₁ at a (stores-in ss n)
+            → a + length (delayStores [] (n + own) (l - k) (text-in ss n)) ≤ length o₁
+        slide-stores-room w = omega (arith, stores-long, w .ends, still-long w)
+
+      pub pair-stores-done : {at a p : ℕ} {o o₁ o₂ : List ℕ} → Wrote o o₁ at a (stores-in ss n)
+          → Wrote o₁ o₂ a p (delayStores [] (n + own) (l - k) (text-in ss n)) → Wrote o o₂ at p (taken-stores l ss n)
+      pair-stores-done w x = same-words (sym stores-with) (last (go (stores-in ss n) _ (begin _ _ _) w) x)
+
+  module _ (before : ℕ) (match-2 : List ℕ) (n : ℕ) where
+    abbrev slid : List ℕ
+    slid = text-in ss n ++ delay-texts (n + registers-in ss) (l - k)
+
+    text-long : length (taken-text before l match-2 ss n) ≡ length match-2 + (length slid + length (word 7 0 ∷ joining before))
+    text-long = ap length (text-is before match-2 n) ∙ length-append match-2 _ ∙ ap (λ (m : ℕ). length match-2 + m) (length-append slid _)
+
+    module _ (at : ℕ) (o : List ℕ) (room : at + length (taken-text before l match-2 ss n) ≤ length o) where
+      pub seq2-text-room : at + length match-2 ≤ length o
+      seq2-text-room = omega (arith, text-long)
+
+      module _ {a : ℕ} {o₁ : List ℕ} (w : Wrote o o₁ at a match-2) where
+        pub seq1-text-room : a + length (text-in ss n ++ delay-texts (n + registers-in ss) (l - k)) ≤ length o₁
+        seq1-text-room = omega (arith, text-long, w .ends, still-long w)
+
+        pub closing-room : {b : ℕ} {o₂ : List ℕ} → Wrote o₁ o₂ a b (text-in ss n ++ delay-texts (n + registers-in ss) (l - k))
+            → b + length (word 7 0 ∷ joining before) ≤ length o₂
+        closing-room x = omega (arith, text-long, w .ends, still-long w, x .ends, still-long x)
+
+    pub pair-text-done : {at a b p : ℕ} {o o₁ o₂ o₃ : List ℕ} → Wrote o o₁ at a match-2
+        → Wrote o₁ o₂ a b (text-in ss n ++ delay-texts (n + registers-in ss) (l - k)) → Wrote o₂ o₃ b p (word 7 0 ∷ joining before)
+        → Wrote o o₃ at p (taken-text before l match-2 ss n)
+    pair-text-done w x y = same-words (sym (text-is before match-2 n)) (last (go slid _ (go match-2 _ (begin _ _ _) w) x) y)
+
+-- The text of an alternative with the registers behind its own ORed to it.
+module _ (ss : List SeqStep) (n d : ℕ) {own : ℕ} (q : own ≡ registers-in ss) where
+  module _ (small : n + registers-in ss + d ≤ 65536) where
+    pub slid-own-small : n + registers-in ss ≤ 65536
+    slid-own-small = omega arith
+
+    pub slid-further-small : n + own + d ≤ 65536
+    slid-further-small = omega arith
+
+  slid-long : length (text-in ss n ++ delay-texts (n + registers-in ss) d) ≡ length (text-in ss n) + 2 * d
+  slid-long = length-append (text-in ss n) _ ∙ omega (arith, length-ored (n + registers-in ss) d)
+
+  module _ (at : ℕ) (o : List ℕ) (room : at + length (text-in ss n ++ delay-texts (n + registers-in ss) d) ≤ length o) where
+    pub slid-first-room : at + length (text-in ss n) ≤ length o
+    slid-first-room = omega (arith, slid-long)
+
+    pub slid-ored-room : {a : ℕ} {o₁ : List ℕ} → Wrote o o₁ at a (text-in ss n) → a + 2 * d ≤ length o₁
+    slid-ored-room w = omega (arith, slid-long, w .ends, still-long w)
+
+  pub slid-done : {at a p : ℕ} {o o₁ o₂ : List ℕ} → Wrote o o₁ at a (text-in ss n) → Wrote o₁ o₂ a p (delay-texts (n + own) d)
+      → Wrote o o₂ at p (text-in ss n ++ delay-texts (n + registers-in ss) d)
+  slid-done w x = last (go (text-in ss n) _ (begin _ _ _) w) (rw q at x)
+
+-- The end of a pair's text.
+module _ (before : ℕ) where
+  pub joins-none : {at a : ℕ} {o o₁ : List ℕ} → before ≡ 0 → Wrote o o₁ at a (word 7 0 ∷ []) → Wrote o o₁ at a (word 7 0 ∷ joining before)
+  unfolding joining
+  joins-none e w = same-words (ap (λ (ws : List ℕ). word 7 0 ∷ ws) (sym (pick-true _ _ (eq-eqb before 0 e)))) w
+
+  module _ (some : before ≡ 0 → ⊥) where
+    joins-one : joining before ≡ word 8 0 ∷ []
+    unfolding joining
+    joins-one = pick-false _ _ (ne-eqb before 0 some)
+
+    pub joining-room : (at : ℕ) {a : ℕ} {o o₁ : List ℕ} → at + length (word 7 0 ∷ joining before) ≤ length o → Wrote o o₁ at a (word 7 0 ∷ []) → a < length o₁
+    joining-room at room w = omega (arith, ap length joins-one, w .ends, still-long w)
+
+    pub joined-done : {at a p : ℕ} {o o₁ o₂ : List ℕ} → Wrote o o₁ at a (word 7 0 ∷ []) → Wrote o₁ o₂ a p (word 8 0 ∷ [])
+        → Wrote o o₂ at p (word 7 0 ∷ joining before)
+    joined-done w x = last (go (word 7 0 ∷ []) _ (begin _ _ _) w) (same-words (sym joins-one) x)
+
+-- The front of a slice is as long as it is cut.
+pub front-length : (place end : ℕ) (work : List ℕ) → place ≤ end → end ≤ length work → place ≡ length (take place work)
+front-length place end work before inside = sym (length-take-le place work (omega arith))

@@ -1,0 +1,74 @@
+-- The sizes of one alternative that stands in a slice, and of a pair, as the code meets them.
+use mathlib.Core.Path.{_≡_, refl, sym, ap, ap₂, _∙_}
+use mathlib.Core.List.{List, [], _∷_}
+use Prim.Native.Nat.{ℕ, _+_, _*_, _-_, _<_, _≤_}
+use native.Mathlib.Omega.{arith}
+use lib.ListN.{length}
+use borrow.Author.Tests.{eq-eqb, ne-eqb}
+use Rattle.words.specs.Choice.{pick-true, pick-false}
+use Rattle.meaning.specs.Root.{window-len}
+use Rattle.meaning.specs.declared.SeqStep.{SeqStep}
+use Rattle.sizes.specs.Sizes.{sizeAt, Countable}
+use Rattle.sizes.specs.declared.Size.{Size}
+use Rattle.sizes.proofs.Laws.{text-small, stores-small}
+use Rattle.sizes.proofs.Lengths.{the-text-has-its-size, the-stores-have-their-size}
+use Rattle.pair.specs.Stored.{count-in, steps-in, Kept}
+use Rattle.pair.specs.Pairs.{registers-in, further, taken-registers}
+use Rattle.pair.specs.Sizes.{size, size-in, delays-size, pair-size, taken-size}
+use Rattle.pair.proofs.Alternatives.{registers-are, stores-are, text-is}
+use Rattle.pair.proofs.Pairs.{not-in, is-in, own-registers-small, all-registers-small}
+
+-- One alternative that stands in a slice.
+module _ {words : List ℕ} (K : Kept words) where
+  pub countable : registers-in (steps-in words) ≤ 65536 → Countable words [] (count-in words)
+  countable small = record {
+    some = K .some;
+    inside = omega (arith, K .whole);
+    many = K .many;
+    registers = omega (arith, registers-are K);
+    short = omega arith;
+  }
+
+  sizes-are : sizeAt words 0 (count-in words - 1) ≡ size-in (steps-in words)
+  unfolding size-in
+  sizes-are =
+      let text = the-text-has-its-size words [] (count-in words - 1) _ in
+      let stores = the-stores-have-their-size words [] (count-in words) 0 in
+      ap₂ size (sym (ap length (text-is K 0) ∙ text)) (sym (ap length (stores-are K 0) ∙ stores))
+
+  module _ {z : Size} (e : z ≡ sizeAt words 0 (count-in words - 1)) where
+    pub size-counted : z ≡ size-in (steps-in words)
+    size-counted = e ∙ sizes-are
+
+    pub text-low : z .text ≤ 1048576
+    text-low = rw e (omega (arith, text-small words 0 (count-in words - 1), K .many, K .some))
+
+    pub stores-low : registers-in (steps-in words) ≤ 65536 → z .stores ≤ 9007199254740992
+    stores-low small = rw e (omega (arith, stores-small (countable small) (count-in words - 1) (omega (arith, K .some)), K .many, K .some))
+
+-- The delays.
+pub no-delays-size : (text : ℕ) {d : ℕ} → d ≡ 0 → 0 ≡ delays-size d text
+unfolding delays-size
+no-delays-size text e = sym (pick-true _ _ (eq-eqb _ 0 e))
+
+pub some-delays-size : (text : ℕ) {d : ℕ} → (d ≡ 0 → ⊥) → text + (1 + 2 * (d - 1)) ≡ delays-size d text
+unfolding delays-size
+some-delays-size text some = sym (pick-false _ _ (ne-eqb _ 0 some))
+
+-- A pair.
+module _ (l two : ℕ) (ss : List SeqStep) {k : ℕ} (e : k ≡ window-len ss) where
+  pub skipped-size : l < k → size 0 0 ≡ taken-size l two ss
+  unfolding taken-size
+  skipped-size above = sym (pick-false _ _ (not-in l ss e above))
+
+  module _ (below : k ≤ l) where
+    pub taken-own-small : taken-registers l ss ≤ 65536 → registers-in ss ≤ 65536
+    taken-own-small small = omega (arith, own-registers-small l ss e below 0 (omega arith))
+
+    pub taken-further-small : taken-registers l ss ≤ 65536 → l - k ≤ 65536
+    taken-further-small small = omega (arith, all-registers-small l ss e below 0 (omega arith))
+
+    pub taken-size-are : {own z : Size} → own ≡ size-in ss → z ≡ size (two + (own .text + (2 * (l - k) + 2))) (own .stores + delays-size (l - k) (own .text))
+        → z ≡ taken-size l two ss
+    unfolding taken-size pair-size further
+    taken-size-are f g = g ∙ rw (f, e) (sym (pick-true _ _ (is-in l ss e below)))

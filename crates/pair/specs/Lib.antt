@@ -1,0 +1,3 @@
+pub mod Stored
+pub mod Pairs
+pub mod Sizes

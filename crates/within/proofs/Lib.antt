@@ -1,0 +1,9 @@
+pub mod RegisterSums
+pub mod PairByPair
+pub mod Lengths
+pub mod Rows
+pub mod RegisterPass
+pub mod SizePass
+pub mod StorePass
+pub mod TextPass
+pub mod Whole

@@ -1,0 +1,181 @@
+-- One alternative of seq2 in the front of work, and one of seq1 behind it: there is room, and what stands there are its steps.
+use mathlib.Core.Path.{_≡_, refl, sym, ap, _∙_}
+use mathlib.Core.List.{List, [], _∷_, _++_, append-assoc}
+use Prim.Native.Nat.{ℕ, zero, suc, _+_, _*_, _-_, _<_, _≤_}
+use native.Mathlib.Nat.{sub-zero}
+use native.Mathlib.Numerals.{add-one}
+use native.Mathlib.Omega.{arith}
+use lib.ListN.{length, take, drop}
+use lib.Seq.{drop-cons, take-at, drop-at, length-take-le}
+use Rattle.words.specs.Written.{Wrote}
+use Rattle.words.proofs.Laws.{spliced}
+use Rattle.meaning.specs.Tree.{treeAt}
+use Rattle.meaning.specs.Alternative.{SeqAlt, single, rehop}
+use Rattle.meaning.specs.Refusals.{entries, room-of}
+use Rattle.meaning.specs.declared.SeqTerm.{SeqTerm}
+use Rattle.meaning.specs.declared.SeqTerm.the-variants.{Bool as BoolTerm, Goto, Nonconsec, ConsecAtLeast, Empty}
+use Rattle.meaning.specs.declared.SeqHop.{SeqHop}
+use Rattle.meaning.specs.declared.SeqHop.the-variants.{Fixed}
+use Rattle.meaning.specs.declared.SeqStep.{SeqStep}
+use Rattle.meaning.proofs.Ranges.{a-formed-tree-is-ranged}
+use Rattle.term.specs.Steps.{termAtom}
+use Rattle.expand.specs.ByNumber.{alternatives-of, nth, alternative-words, Expandable, Numbered}
+use Rattle.expand.proofs.Every.{has-step, each-expanded, each-nth}
+use Rattle.choice.proofs.SmallAtoms.{SmallTerm, SmallSteps, SmallAlternatives, small-alternatives}
+use Rattle.choice.proofs.Holding.{room-is-small}
+use Rattle.choice.proofs.Keeping.{room-in-work}
+use Rattle.pair.specs.Stored.{steps-in, SmallAtoms, Kept}
+use Rattle.pair.proofs.Stored.{length-steps, steps-read-back, kept-steps}
+use Rattle.pair.proofs.Pairs.{still-long}
+use Rattle.within.specs.Rows.{Placed, Paired}
+
+-- The hop of a first term is never used.
+length-rehop : (h : SeqHop) (ss : List SeqStep) → length (rehop h ss) ≡ length ss
+length-rehop h [] = refl
+length-rehop h (s ∷ ss) = refl
+
+small-rehop : (h : SeqHop) (ss : List SeqStep) → SmallAtoms ss → SmallAtoms (rehop h ss)
+small-rehop h [] small = small
+small-rehop h (s ∷ ss) small = small
+
+-- The atoms of one of the alternatives of a formed table's node.
+small-atom : (x : SeqTerm) → SmallTerm x → termAtom x < 65536
+small-atom (BoolTerm a) small = small
+small-atom (Goto b k) small = small
+small-atom (Nonconsec b k) small = small
+small-atom (ConsecAtLeast b k) small = small
+small-atom Empty small = omega arith
+
+small-atoms : (ss : List SeqStep) → SmallSteps ss → SmallAtoms ss
+small-atoms [] small = tt
+small-atoms (s ∷ ss) small = (small-atom (s .term) (small .0), small-atoms ss (small .1))
+
+small-nth : (alts : List SeqAlt) (i : ℕ) → i < length alts → SmallAlternatives alts → SmallAtoms (nth alts i .steps)
+unfolding nth
+small-nth [] i h small = absurd (omega arith)
+small-nth (y ∷ ys) zero h small = small-atoms (y .steps) (small .0 .steps)
+small-nth (y ∷ ys) (suc i) h small = small-nth ys i (omega arith) (small .1)
+
+small-in-node : {t : List ℕ} {n i : ℕ} → Expandable t n → i < length (alternatives-of t n) → SmallAtoms (nth (alternatives-of t n) i .steps)
+unfolding alternatives-of
+small-in-node {t} {n} {i} E h =
+    small-nth (alternatives-of t n) i h (small-alternatives (treeAt t n) (a-formed-tree-is-ranged t (E .formed) n (E .inside)))
+
+-- No alternative has more steps than all of them have entries.
+steps-among-entries : (alts : List SeqAlt) (i : ℕ) → i < length alts → length (nth alts i .steps) ≤ entries alts
+unfolding nth
+steps-among-entries [] i h = absurd (omega arith)
+steps-among-entries (y ∷ ys) zero h = omega arith
+steps-among-entries (y ∷ ys) (suc i) h = omega (arith, steps-among-entries ys i (omega arith))
+
+-- What was put into a slice stands there, and what stood before it still does.
+module _ {o o′ : List ℕ} {at end : ℕ} {ws : List ℕ} (w : Wrote o o′ at end ws) (room : at + length ws ≤ length o) where
+  front-long : length (take at o) ≡ at
+  front-long = length-take-le at o (omega arith)
+
+  parts-are : o′ ≡ take at o ++ (ws ++ drop (at + length ws) o)
+  parts-are = w .holds ∙ spliced o at ws room ∙ append-assoc (take at o) ws _
+
+  part-written : take (end - at) (drop at o′) ≡ ws
+  part-written =
+      let e : end - at ≡ length ws = omega (arith, w .ends) in
+      rw (parts-are, e, drop-at (take at o) (ws ++ drop (at + length ws) o) at front-long) (take-at ws (drop (at + length ws) o) (length ws) refl)
+
+  pub front-kept : take at o′ ≡ take at o
+  front-kept = rw parts-are (take-at (take at o) (ws ++ drop (at + length ws) o) at front-long)
+
+-- The i-th alternative of a node, from the place on.
+module _ {t : List ℕ} {n place work i : ℕ} (P : Placed t n place work) (h : i < length (alternatives-of t n)) where
+  abbrev steps : List SeqStep
+  steps = nth (alternatives-of t n) i .steps
+
+  abbrev words : List ℕ
+  words = alternative-words (Fixed 0) (alternatives-of t n) i
+
+  few-steps : length (rehop (Fixed 0) steps) ≤ entries (alternatives-of t n)
+  few-steps = omega (arith, length-rehop (Fixed 0) steps, steps-among-entries (alternatives-of t n) i h)
+
+  some-step : 1 ≤ length (rehop (Fixed 0) steps)
+  unfolding alternatives-of
+  some-step = omega (arith, length-rehop (Fixed 0) steps, each-nth has-step (alternatives-of t n) i (each-expanded has-step (treeAt t n)))
+
+  words-long : length words ≡ length (rehop (Fixed 0) steps) * 5
+  unfolding alternative-words
+  words-long = length-steps (rehop (Fixed 0) steps)
+
+  words-kept : Kept words
+  unfolding alternative-words
+  words-kept = kept-steps (rehop (Fixed 0) steps) some-step (omega (arith, few-steps, P .few)) (small-rehop (Fixed 0) steps (small-in-node (P .node) h))
+
+  pub placed-number : Numbered t n i
+  placed-number = record { node = P .node; index = h }
+
+  pub placed-room : place + length (alternative-words (Fixed 0) (alternatives-of t n) i) ≤ work
+  placed-room = omega (arith, words-long, few-steps, P .room)
+
+-- .. once it is written there.
+module _ {t : List ℕ} {n place i : ℕ} {o o′ : List ℕ} {end : ℕ} (P : Placed t n place (length o)) (h : i < length (alternatives-of t n))
+    (w : Wrote o o′ place end (alternative-words (Fixed 0) (alternatives-of t n) i)) where
+  part-is : take (end - place) (drop place o′) ≡ alternative-words (Fixed 0) (alternatives-of t n) i
+  part-is = part-written w (placed-room P h)
+
+  pub part-kept : Kept (take (end - place) (drop place o′))
+  part-kept = rw part-is (words-kept P h)
+
+  pub part-steps : steps-in (take (end - place) (drop place o′)) ≡ rehop (Fixed 0) (nth (alternatives-of t n) i .steps)
+  unfolding alternative-words
+  part-steps = ap steps-in part-is ∙ steps-read-back (rehop (Fixed 0) (nth (alternatives-of t n) i .steps))
+
+  pub part-ends : end ≤ length o′
+  part-ends = omega (arith, w .ends, still-long w, placed-room P h)
+
+  end-low : end ≤ place + entries (alternatives-of t n) * 5
+  end-low = omega (arith, w .ends, words-long P h, few-steps P h)
+
+-- .. at the front of work.
+module _ {t : List ℕ} {n i : ℕ} {o o′ : List ℕ} {end : ℕ} (P : Placed t n 0 (length o)) (h : i < length (alternatives-of t n))
+    (w : Wrote o o′ 0 end (alternative-words (Fixed 0) (alternatives-of t n) i)) where
+  front-is : take end o′ ≡ take (end - 0) (drop 0 o′)
+  front-is = ap (λ (k : ℕ). take k o′) (sym (sub-zero end))
+
+  pub front-stands : Kept (take end o′)
+  front-stands = rw front-is (part-kept P h w)
+
+  pub front-steps : steps-in (take end o′) ≡ rehop (Fixed 0) (nth (alternatives-of t n) i .steps)
+  front-steps = ap steps-in front-is ∙ part-steps P h w
+
+  pub front-measured : end ≡ length (take end o′)
+  front-measured = sym (length-take-le end o′ (part-ends P h w))
+
+-- Seq2's alternative in front, and room for each of seq1's behind it, whatever was written into work since.
+module _ {t : List ℕ} {n₁ n₂ work : ℕ} (P : Paired t n₁ n₂ work) where
+  pub seq1-node : Expandable t n₁
+  seq1-node = record { formed = P .formed; inside = P .one-inside; room = room-of work; walkable = P .one }
+
+  pub seq2-node : Expandable t n₂
+  seq2-node = record { formed = P .formed; inside = P .two-inside; room = room-of work; walkable = P .two }
+
+  both-fit : (entries (alternatives-of t n₁) + entries (alternatives-of t n₂)) * 16 ≤ work
+  both-fit = omega (arith, P .pairs .fits, room-in-work work)
+
+  both-few : entries (alternatives-of t n₁) + entries (alternatives-of t n₂) ≤ 65536
+  both-few = omega (arith, P .pairs .fits, room-is-small work)
+
+  pub seq2-placed : Placed t n₂ 0 work
+  seq2-placed = record { node = seq2-node; room = omega (arith, both-fit); few = omega (arith, both-few) }
+
+pub seq1-placed : {t : List ℕ} {n₁ n₂ i end : ℕ} {o o′ : List ℕ} → Paired t n₁ n₂ (length o) → i < length (alternatives-of t n₂)
+    → Wrote o o′ 0 end (alternative-words (Fixed 0) (alternatives-of t n₂) i) → Placed t n₁ end (length o′)
+seq1-placed P h w = record {
+  node = seq1-node P;
+  room = omega (arith, both-fit P, end-low (seq2-placed P) h w, still-long w);
+  few = omega (arith, both-few P);
+}
+
+pub still-paired : {t : List ℕ} {n₁ n₂ work work′ : ℕ} → Paired t n₁ n₂ work → work′ ≡ work → Paired t n₁ n₂ work′
+still-paired P e = rw e P
+
+-- The alternatives that are left, the next one in front.
+pub rest-of : (alts : List SeqAlt) (i : ℕ) → i < length alts → drop i alts ≡ nth alts i ∷ drop (i + 1) alts
+unfolding nth
+rest-of alts i h = rw (add-one i) (drop-cons alts i (single Empty) h)

@@ -1,22 +1,23 @@
 -- The sizes of one alternative that stands in a slice, and of a pair, as the code meets them.
-use mathlib.Core.Path.{_≡_, refl, sym, ap, ap₂, _∙_}
-use mathlib.Core.List.{List, [], _∷_}
-use Prim.Native.Nat.{ℕ, _+_, _*_, _-_, _<_, _≤_}
+use mathlib.Core.Path.{_≡_, sym, ap, ap₂, _∙_}
+use mathlib.Core.List.{List, []}
+use Prim.Native.Nat.{ℕ, _+_, _*_, _-_, _≤_}
 use native.Mathlib.Omega.{arith}
 use lib.ListN.{length}
 use borrow.Author.Tests.{eq-eqb, ne-eqb}
 use Rattle.words.specs.Choice.{pick-true, pick-false}
-use Rattle.meaning.specs.Root.{window-len}
 use Rattle.meaning.specs.declared.SeqStep.{SeqStep}
 use Rattle.sizes.specs.Sizes.{sizeAt, Countable}
 use Rattle.sizes.specs.declared.Size.{Size}
 use Rattle.sizes.proofs.Laws.{text-small, stores-small}
 use Rattle.sizes.proofs.Lengths.{the-text-has-its-size, the-stores-have-their-size}
 use Rattle.pair.specs.Stored.{count-in, steps-in, Kept}
-use Rattle.pair.specs.Pairs.{registers-in, further, taken-registers}
+use Rattle.pair.specs.declared.Fit.{Fit}
+use Rattle.pair.specs.declared.Fit.the-variants.{Delays, Above}
+use Rattle.pair.specs.Pairs.{registers-in, fit-of, taken-registers}
 use Rattle.pair.specs.Sizes.{size, size-in, delays-size, pair-size, taken-size}
 use Rattle.pair.proofs.Alternatives.{registers-are, stores-are, text-is}
-use Rattle.pair.proofs.Pairs.{not-in, is-in, own-registers-small, all-registers-small}
+use Rattle.pair.proofs.Pairs.{not-in, is-in, further-is, own-registers-small, all-registers-small}
 
 -- One alternative that stands in a slice.
 module _ {words : List ℕ} (K : Kept words) where
@@ -56,19 +57,19 @@ unfolding delays-size
 some-delays-size text some = sym (pick-false _ _ (ne-eqb _ 0 some))
 
 -- A pair.
-module _ (l two : ℕ) (ss : List SeqStep) {k : ℕ} (e : k ≡ window-len ss) where
-  pub skipped-size : l < k → size 0 0 ≡ taken-size l two ss
+module _ (l two : ℕ) (ss : List SeqStep) {f : Fit} (e : f ≡ fit-of l ss) where
+  pub skipped-size : f ≡ Above → size 0 0 ≡ taken-size l two ss
   unfolding taken-size
   skipped-size above = sym (pick-false _ _ (not-in l ss e above))
 
-  module _ (below : k ≤ l) where
+  module _ {d : ℕ} (delays : f ≡ Delays d) where
     pub taken-own-small : taken-registers l ss ≤ 65536 → registers-in ss ≤ 65536
-    taken-own-small small = omega (arith, own-registers-small l ss e below 0 (omega arith))
+    taken-own-small small = omega (arith, own-registers-small l ss e delays 0 (omega arith))
 
-    pub taken-further-small : taken-registers l ss ≤ 65536 → l - k ≤ 65536
-    taken-further-small small = omega (arith, all-registers-small l ss e below 0 (omega arith))
+    pub taken-further-small : taken-registers l ss ≤ 65536 → d ≤ 65536
+    taken-further-small small = omega (arith, all-registers-small l ss e delays 0 (omega arith))
 
-    pub taken-size-are : {own z : Size} → own ≡ size-in ss → z ≡ size (two + (own .text + (2 * (l - k) + 2))) (own .stores + delays-size (l - k) (own .text))
+    pub taken-size-are : {own z : Size} → own ≡ size-in ss → z ≡ size (two + (own .text + (2 * d + 2))) (own .stores + delays-size d (own .text))
         → z ≡ taken-size l two ss
-    unfolding taken-size pair-size further
-    taken-size-are f g = g ∙ rw (f, e) (sym (pick-true _ _ (is-in l ss e below)))
+    unfolding taken-size pair-size
+    taken-size-are g q = q ∙ rw (g, further-is l ss e delays) (sym (pick-true _ _ (is-in l ss e delays)))

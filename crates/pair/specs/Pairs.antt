@@ -13,6 +13,8 @@ use Rattle.meaning.specs.Pipeline.{synth-seq-pipeline}
 use Rattle.meaning.specs.Root.{window-len}
 use Rattle.meaning.specs.Listing.{word, expression-words, store-words}
 use Rattle.meaning.specs.declared.SeqStep.{SeqStep}
+use Rattle.pair.specs.declared.Fit.{Fit}
+use Rattle.pair.specs.declared.Fit.the-variants.{Delays, Above}
 use Rattle.pipeline.specs.Stores.{delayStores}
 
 -- One alternative of an operand: within takes none with a guard.
@@ -37,6 +39,10 @@ fits-in l s₁ = leb (window-len s₁) l
 -- "l - k1 further delays"
 unfoldable pub further : ℕ → List SeqStep → ℕ
 further l s₁ = l - window-len s₁
+
+-- Both at once.
+unfoldable pub fit-of : ℕ → List SeqStep → Fit
+fit-of l s₁ = pick (fits-in l s₁) (Delays (further l s₁)) Above
 
 -- Each of the d registers, ORed to the text before.
 unfoldable pub delay-texts : ℕ → ℕ → List ℕ

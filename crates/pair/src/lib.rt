@@ -12,12 +12,19 @@ ghost use Rattle.meaning.specs.Listing.{word};
 ghost use Rattle.meaning.specs.Root.{window-len, hop-length};
 ghost use Rattle.pipeline.specs.Stores.{delayStores};
 ghost use Rattle.pair.specs.Stored.{steps-in, Kept};
-ghost use Rattle.pair.specs.Pairs.{registers-in, stores-in, text-in, delay-texts, joining, taken-registers, taken-stores, taken-text};
+ghost use Rattle.pair.specs.Pairs.{registers-in, stores-in, text-in, fit-of, delay-texts, joining, taken-registers, taken-stores, taken-text};
 ghost use Rattle.pair.specs.Sizes.{size, size-in, delays-size, taken-size};
+
+// How an alternative of seq1 goes beside one of seq2: with so many further delays, or not at all.
+pub enum Fit {
+    Delays(u64),
+    Above,
+}
 
 // 01's store `seq`, with argument 0.
 const SEQ: u32 = 9 * current::ATOM;
 
+// The ticks of a hop.
 fn hop_length(h: meaning::SeqHop) -> u64
     ensures { λ r. ⌜ r ≡ hop-length h ⌝ }
     ensures small { λ r. ⌜ r ≤ 4294967295 ⌝ }
@@ -44,6 +51,18 @@ pub fn window_len(steps: &[u32]) -> u64
         k += 1;
     }
     total
+}
+
+// Whether an alternative of seq1 fits, "window k1 not above l", and with how many delays, "l - k1 further".
+fn fitted(one: &[u32], l: u64) -> Fit
+    requires { ⌜ Kept (now one) ⌝ }
+    ensures { λ r. ⌜ r ≡ fit-of l (steps-in (now (one .entry))) ⌝ }
+{
+    let k = window_len(one);
+    if k <= l {
+        return Fit::Delays(l - k);
+    }
+    Fit::Above
 }
 
 // The registers of an alternative.
@@ -120,12 +139,12 @@ pub fn pair_registers(one: &[u32], l: u64) -> u64
     ensures { λ r. ⌜ r ≡ taken-registers l (steps-in (now (one .entry))) ⌝ }
     ensures small { λ r. ⌜ r ≤ 844424930131968 ⌝ }
 {
-    let k = window_len(one);
-    if l < k {
+    let f = fitted(one, l);
+    let Fit::Delays(d) = f else {
         return 0;
-    }
+    };
     let own = registers_of(one);
-    own + (l - k)
+    own + d
 }
 
 // The assignments that it makes, from register n on.
@@ -133,13 +152,13 @@ pub fn pair_stores(one: &[u32], l: u64, n: u32, out: &mut [u32], at: usize) -> u
     requires { ⌜ Kept (now one) × (n + taken-registers l (steps-in (now one)) ≤ 65536) × (at + length (taken-stores l (steps-in (now one)) n) ≤ length (now out)) ⌝ }
     ensures { λ p. ⌜ Wrote (now (out .entry)) (now (out .exit)) at p (taken-stores l (steps-in (now (one .entry))) n) ⌝ }
 {
-    let k = window_len(one);
-    if l < k {
+    let f = fitted(one, l);
+    let Fit::Delays(d) = f else {
         return at;
-    }
+    };
     let r = n + registers_of(one) as u32;
     let a = stores_of(one, n, out, at);
-    slide_stores(one, n, r, (l - k) as u32, out, a)
+    slide_stores(one, n, r, d as u32, out, a)
 }
 
 // The text of an alternative, and each of d registers behind its own ORed to it.
@@ -178,12 +197,12 @@ fn pair_text(
     requires { ⌜ Kept (now two) × Kept (now one) × (m + registers-in (steps-in (now two)) ≤ 65536) × (n + taken-registers l (steps-in (now one)) ≤ 65536) × (at + length (taken-text before l (text-in (steps-in (now two)) m) (steps-in (now one)) n) ≤ length (now out)) ⌝ }
     ensures { λ p. ⌜ Wrote (now (out .entry)) (now (out .exit)) at p (taken-text before l (text-in (steps-in (now (two .entry))) m) (steps-in (now (one .entry))) n) ⌝ }
 {
-    let k = window_len(one);
-    if l < k {
+    let f = fitted(one, l);
+    let Fit::Delays(d) = f else {
         return at;
-    }
+    };
     let a = text_of(two, m, out, at);
-    let b = slid_text(one, n, (l - k) as u32, out, a);
+    let b = slid_text(one, n, d as u32, out, a);
     closed(before, out, b)
 }
 
@@ -245,10 +264,10 @@ pub fn pair_size(one: &[u32], l: u64, two: u64) -> sizes::Size
     ensures { λ r. ⌜ r ≡ taken-size l two (steps-in (now (one .entry))) ⌝ }
     ensures small { λ r. ⌜ (r .text ≤ 4194304) × (r .stores ≤ 18014398509481984) ⌝ }
 {
-    let k = window_len(one);
-    if l < k {
+    let f = fitted(one, l);
+    let Fit::Delays(d) = f else {
         return sizes::Size { text: 0, stores: 0 };
-    }
+    };
     let own = size_of(one);
-    fitting_size(own, two, l - k)
+    fitting_size(own, two, d)
 }

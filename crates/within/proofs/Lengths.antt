@@ -2,15 +2,15 @@
 use mathlib.Core.Path.{_≡_, refl, sym, ap, ap₂, subst, _∙_}
 use mathlib.Core.Bool.{Bool, true, false}
 use mathlib.Core.List.{List, [], _∷_, _++_}
-use Prim.Native.Nat.{ℕ, zero, suc, _+_, _*_, _-_, _<_, _≤_}
+use Prim.Native.Nat.{ℕ, zero, suc, _+_, _-_, _<_, _≤_}
 use native.Mathlib.Nat.{add-zero}
 use native.Mathlib.Omega.{arith}
 use lib.Dec.{eqb}
 use lib.ListN.{length, length-append}
-use borrow.Author.Tests.{eqb-true, eqb-false, ne-eqb}
+use borrow.Author.Tests.{ne-eqb}
 use Rattle.words.specs.Choice.{pick, pick-true, pick-false}
 use Rattle.meaning.specs.Alternative.{SeqAlt, unguarded}
-use Rattle.meaning.specs.Listing.{word, expression-words, store-words, listing}
+use Rattle.meaning.specs.Listing.{word, expression-words, store-words}
 use Rattle.meaning.specs.Root.{window-len, synth-within}
 use Rattle.meaning.specs.declared.SeqStep.{SeqStep}
 use Rattle.expand.specs.ByNumber.{stepsWords}
@@ -25,7 +25,6 @@ use Rattle.pair.specs.Pairs.{registers-in, stores-in, text-in, fits-in, further
 use Rattle.within.specs.AllPairs.{pairs-stores, pairs-texts, row-registers, row-stores, row-texts, all-stores, all-texts, or-zero, within-words}
 use Rattle.pair.specs.Sizes.{size, size-in, delays-size, pair-size, taken-size}
 use Rattle.within.specs.AllSizes.{plus, pairs-size, row-size, all-size, match-size, words-in}
-use Rattle.pair.specs.Stored.{steps-from}
 use Rattle.pair.proofs.Stored.{steps-behind}
 use Rattle.pair.proofs.Delays.{length-ored}
 use Rattle.pair.proofs.Alternatives.{stored-from}

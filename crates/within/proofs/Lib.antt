@@ -7,3 +7,4 @@ pub mod SizePass
 pub mod StorePass
 pub mod TextPass
 pub mod Whole
+pub mod AtTheRoot

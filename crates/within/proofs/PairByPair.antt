@@ -4,22 +4,22 @@ use mathlib.Core.Path.{_≡_, refl, sym, ap, ap₂, _∙_}
 use mathlib.Core.Bool.{Bool, true, false}
 use mathlib.Core.List.{List, [], _∷_, _++_, append-nil, append-assoc}
 use Prim.Native.Nat.{ℕ, zero, suc, _+_, _-_, _<_}
-use native.Mathlib.Nat.{add-zero, suc-add}
+use native.Mathlib.Nat.{add-zero}
 use native.Mathlib.Omega.{arith}
-use lib.Dec.{leb, eqb}
+use lib.Dec.{leb}
 use lib.ListN.{length, length-append}
 use borrow.Author.Tests.{ne-eqb}
 use Rattle.words.specs.Choice.{pick, pick-false}
 use Rattle.meaning.specs.Expression.{Expr, a·, r·, zero·, one·, any, not·, and·, or·, Synth}
-use Rattle.meaning.specs.Alternative.{unguarded, SeqAlt}
+use Rattle.meaning.specs.Alternative.{SeqAlt}
 use Rattle.meaning.specs.Root.{Signals, window-len, slide, fitting-pair, pairs, all-pairs, or-all, one-of, synth-within}
-use Rattle.meaning.specs.Listing.{word, expression-words, store-words, listing}
+use Rattle.meaning.specs.Listing.{word, expression-words, store-words}
 use Rattle.meaning.specs.declared.SeqStep.{SeqStep}
 use Rattle.choice.proofs.Words.{store-words-append}
 use Rattle.pipeline.specs.Stores.{delayStores}
-use Rattle.pair.specs.Pairs.{alternative-synth, registers-in, stores-in, text-in, fits-in, further, delay-texts, pair-registers, pair-stores, pair-text, joining, taken-registers, taken-stores, taken-text}
-use Rattle.within.specs.AllPairs.{pairs-registers, pairs-stores, pairs-texts, row-registers, row-stores, row-texts, all-registers, all-stores, all-texts, or-zero, within-words}
-use Rattle.within.proofs.RegisterSums.{registers-from-any-number, slide-count, pair-count, pairs-count, the-registers-of-a-within}
+use Rattle.pair.specs.Pairs.{alternative-synth, stores-in, text-in, fits-in, further, delay-texts, pair-registers, pair-stores, pair-text, joining, taken-registers, taken-stores, taken-text}
+use Rattle.within.specs.AllPairs.{pairs-stores, pairs-texts, row-registers, row-stores, row-texts, all-stores, all-texts, or-zero, within-words}
+use Rattle.within.proofs.RegisterSums.{registers-from-any-number, pair-count, pairs-count}
 
 -- The delays of a pair: their assignments, and their registers ORed to what is delayed.
 pub slide-stores : (n d : ℕ) (acc cur : Expr) → store-words n (slide n d acc cur .stores) ≡ delayStores [] n d (expression-words cur)

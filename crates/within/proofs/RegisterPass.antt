@@ -1,19 +1,19 @@
 -- The pass that counts registers, as the code meets it: before each alternative the rest of them gives what all give.
 use mathlib.Core.Path.{_≡_, refl, sym, ap, _∙_}
 use mathlib.Core.List.{List, [], _∷_}
-use Prim.Native.Nat.{ℕ, zero, suc, _+_, _*_, _-_, _<_, _≤_}
+use Prim.Native.Nat.{ℕ, _+_, _*_, _-_, _<_, _≤_}
 use native.Mathlib.Nat.{mul-le-mul, le-refl}
 use native.Mathlib.Omega.{arith}
 use mir.Val.{Fits}
 use mir.Syntax.{w64}
 use lib.ListN.{length, take, drop, drop-of-length-le}
 use Rattle.words.specs.Written.{Wrote}
-use Rattle.meaning.specs.Alternative.{SeqAlt, rehop}
+use Rattle.meaning.specs.Alternative.{rehop}
 use Rattle.meaning.specs.Root.{window-len}
 use Rattle.meaning.specs.declared.SeqHop.{SeqHop}
 use Rattle.meaning.specs.declared.SeqHop.the-variants.{Fixed}
 use Rattle.meaning.specs.declared.SeqStep.{SeqStep}
-use Rattle.expand.specs.ByNumber.{alternatives-of, nth, alternative-words, Expandable}
+use Rattle.expand.specs.ByNumber.{alternatives-of, nth, alternative-words}
 use Rattle.expand.proofs.ByKind.{few-alternatives}
 use Rattle.pair.specs.Stored.{steps-in}
 use Rattle.pair.specs.Pairs.{registers-in, fits-in, further, pair-registers, taken-registers}

@@ -1,16 +1,15 @@
 -- How many registers a within has: those of its pairs, added up. They do not depend on the number of the first.
-use mathlib.Core.Path.{_≡_, refl, sym, ap, _∙_}
+use mathlib.Core.Path.{_≡_, refl, ap, _∙_}
 use mathlib.Core.Bool.{Bool, true, false}
-use mathlib.Core.List.{List, [], _∷_, _++_}
+use mathlib.Core.List.{List, [], _∷_}
 use Prim.Native.Nat.{ℕ, zero, suc, _+_, _-_}
 use native.Mathlib.Omega.{arith}
 use lib.Dec.{leb}
 use lib.ListN.{length, length-append}
 use Rattle.words.specs.Choice.{pick}
-use Rattle.meaning.specs.Expression.{Expr, r·, or·, Synth, andThen}
+use Rattle.meaning.specs.Expression.{Expr, r·, or·}
 use Rattle.meaning.specs.Alternative.{unguarded, SeqAlt}
 use Rattle.meaning.specs.Root.{Signals, window-len, slide, fitting-pair, pairs, all-pairs, synth-within}
-use Rattle.meaning.specs.Pipeline.{synth-seq-pipeline}
 use Rattle.meaning.specs.declared.SeqStep.{SeqStep}
 use Rattle.choice.proofs.Registers.{as-many-in-a-pipeline}
 use Rattle.pair.specs.Pairs.{alternative-synth, registers-in, fits-in, further, pair-registers, taken-registers}

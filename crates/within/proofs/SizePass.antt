@@ -1,10 +1,9 @@
 -- The pass that counts words, as the code meets it: before each alternative the rest of them gives what all give.
 use mathlib.Core.Path.{_≡_, refl, sym, ap, ap₂, _∙_}
 use mathlib.Core.List.{List, [], _∷_}
-use Prim.Native.Nat.{ℕ, zero, suc, _+_, _*_, _-_, _<_, _≤_}
+use Prim.Native.Nat.{ℕ, _+_, _*_, _-_, _<_, _≤_}
 use native.Mathlib.Nat.{mul-le-mul, le-refl}
 use native.Mathlib.Omega.{arith}
-use lib.Dec.{eqb}
 use lib.ListN.{length, take, drop, drop-of-length-le}
 use borrow.Author.Tests.{eq-eqb, ne-eqb}
 use Rattle.words.specs.Choice.{pick-true, pick-false}
@@ -16,18 +15,15 @@ use Rattle.meaning.specs.declared.SeqHop.the-variants.{Fixed}
 use Rattle.meaning.specs.declared.SeqStep.{SeqStep}
 use Rattle.expand.specs.ByNumber.{alternatives-of, nth, alternative-words}
 use Rattle.expand.proofs.ByKind.{few-alternatives}
-use Rattle.sizes.specs.Sizes.{sizeAt, Countable}
 use Rattle.sizes.specs.declared.Size.{Size}
-use Rattle.sizes.proofs.Laws.{text-small, stores-small}
-use Rattle.sizes.proofs.Lengths.{the-text-has-its-size, the-stores-have-their-size}
-use Rattle.pair.specs.Stored.{count-in, steps-in, Kept}
+use Rattle.pair.specs.Stored.{steps-in}
 use Rattle.pair.specs.Pairs.{registers-in, stores-in, text-in, fits-in, further, taken-registers}
 use Rattle.within.specs.AllPairs.{pairs-registers, row-registers, all-registers}
-use Rattle.pair.specs.Sizes.{size, size-in, delays-size, pair-size, taken-size}
+use Rattle.pair.specs.Sizes.{size, size-in, pair-size, taken-size}
 use Rattle.within.specs.AllSizes.{plus, pairs-size, row-size, all-size, match-size, words-in}
 use Rattle.within.specs.Rows.{Placed, Paired}
 use Rattle.within.proofs.Rows.{rest-of, part-steps, front-steps, seq1-node, seq2-node, seq2-placed}
-use Rattle.within.proofs.RegisterPass.{registers-rehop, window-rehop}
+use Rattle.within.proofs.RegisterPass.{window-rehop}
 use Rattle.within.proofs.StorePass.{part-registers, row-registers-are}
 
 -- The hop of a first term is never used.

@@ -1,8 +1,7 @@
 -- The pass that writes the assignments, as the code meets it: before each alternative the rest of them gives what all give.
 use mathlib.Core.Path.{_≡_, refl, sym, ap, _∙_}
 use mathlib.Core.List.{List, [], _∷_, _++_}
-use Prim.Native.Nat.{ℕ, zero, suc, _+_, _*_, _-_, _<_, _≤_}
-use native.Mathlib.Nat.{sub-zero}
+use Prim.Native.Nat.{ℕ, _+_, _-_, _<_, _≤_}
 use native.Mathlib.Omega.{arith}
 use mir.Val.{Fits}
 use mir.Syntax.{w32}
@@ -16,7 +15,7 @@ use Rattle.meaning.specs.declared.SeqHop.the-variants.{Fixed}
 use Rattle.meaning.specs.declared.SeqStep.{SeqStep}
 use Rattle.expand.specs.ByNumber.{alternatives-of, nth, alternative-words}
 use Rattle.pair.specs.Stored.{steps-in}
-use Rattle.pair.specs.Pairs.{registers-in, stores-in, text-in, fits-in, further, pair-registers, pair-stores, taken-registers, taken-stores}
+use Rattle.pair.specs.Pairs.{registers-in, stores-in, text-in, fits-in, further, pair-stores, taken-registers, taken-stores}
 use Rattle.within.specs.AllPairs.{pairs-registers, pairs-stores, row-registers, row-stores, all-registers, all-stores}
 use Rattle.choice.specs.Passes.{Marked}
 use Rattle.within.specs.Rows.{Placed, Paired}

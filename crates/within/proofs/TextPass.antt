@@ -2,15 +2,14 @@
 -- match begins at a start, so that p - start words of it stand before the place p.
 use mathlib.Core.Path.{_≡_, refl, sym, ap, ap₂, _∙_}
 use mathlib.Core.List.{List, [], _∷_, _++_}
-use Prim.Native.Nat.{ℕ, zero, suc, _+_, _*_, _-_, _<_, _≤_}
+use Prim.Native.Nat.{ℕ, _+_, _-_, _<_, _≤_}
 use native.Mathlib.Nat.{sub-self}
 use native.Mathlib.Omega.{arith}
 use lib.Dec.{eqb}
 use lib.ListN.{length, take, drop, length-append, drop-of-length-le}
-use lib.Seq.{length-take-le}
 use borrow.Author.Tests.{eq-eqb, eqb-true}
-use Rattle.words.specs.Choice.{pick, pick-true, pick-false, pick-case}
-use Rattle.words.specs.Written.{written, Wrote}
+use Rattle.words.specs.Choice.{pick-true, pick-case}
+use Rattle.words.specs.Written.{Wrote}
 use Rattle.words.proofs.Laws.{Going, begin, go, last, done, same-words}
 use Rattle.meaning.specs.Alternative.{SeqAlt, rehop}
 use Rattle.meaning.specs.Listing.{word}
@@ -20,7 +19,7 @@ use Rattle.meaning.specs.declared.SeqHop.the-variants.{Fixed}
 use Rattle.meaning.specs.declared.SeqStep.{SeqStep}
 use Rattle.expand.specs.ByNumber.{alternatives-of, nth, alternative-words}
 use Rattle.pair.specs.Stored.{steps-in, Kept}
-use Rattle.pair.specs.Pairs.{registers-in, text-in, fits-in, further, pair-text, joining, taken-registers, taken-text}
+use Rattle.pair.specs.Pairs.{registers-in, text-in, fits-in, further, pair-text, taken-registers, taken-text}
 use Rattle.within.specs.AllPairs.{pairs-registers, pairs-texts, row-registers, row-texts, all-registers, all-texts, or-zero}
 use Rattle.choice.specs.Passes.{Marked}
 use Rattle.within.specs.Rows.{Placed, Paired}

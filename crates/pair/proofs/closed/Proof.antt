@@ -1,3 +1,4 @@
+-- `closed` writes the AND, and the OR where words of the match stand before.
 use borrow.Author.Needs.{needs}
 use Rattle.pair.proofs.Pairs.{joins-none, joining-room, joined-done}
 use Rattle.pair.proofs.closed.Statement.{statement}

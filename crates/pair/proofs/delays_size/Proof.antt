@@ -1,3 +1,4 @@
+-- `delays_size` makes the one test of `delays-size`.
 use borrow.Author.Needs.{needs}
 use Rattle.pair.proofs.Sizes.{no-delays-size, some-delays-size}
 use Rattle.pair.proofs.delays_size.Statement.{statement}

@@ -1,3 +1,4 @@
+-- `fitting_size` adds the parts of a pair that fits.
 use borrow.Author.Needs.{needs}
 use Rattle.pair.proofs.fitting_size.Statement.{statement}
 use Rattle.pair.proofs.fitting_size.Tie as tie

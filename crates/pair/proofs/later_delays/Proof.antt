@@ -1,3 +1,4 @@
+-- `later_delays` writes two words a delay; what is left of them is said in `Delaying`.
 use borrow.Author.Needs.{needs}
 use Rattle.pair.proofs.Delays.{Delaying, delaying-begins, delaying-on, delaying-ends}
 use Prim.Native.Nat.{_-_}

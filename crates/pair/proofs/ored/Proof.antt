@@ -1,3 +1,4 @@
+-- `ored` writes two words a register; what is left of them is said in `Oring`.
 use borrow.Author.Needs.{needs}
 use Rattle.pair.proofs.Delays.{Oring, oring-begins, oring-on, oring-ends}
 use Prim.Native.Nat.{_-_}

@@ -1,3 +1,4 @@
+-- `pair_text_in` cuts work into the two alternatives.
 use borrow.Author.Needs.{needs}
 use Rattle.pair.proofs.Pairs.{front-length}
 use Rattle.pair.proofs.pair_text_in.Statement.{statement}

@@ -1,3 +1,4 @@
+-- `registers_of` adds up the registers of all steps.
 use borrow.Author.Needs.{needs}
 use Rattle.pair.proofs.Alternatives.{registers-counted}
 use Rattle.pair.proofs.registers_of.Statement.{statement}

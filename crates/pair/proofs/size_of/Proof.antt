@@ -1,3 +1,4 @@
+-- `size_of` counts the words of an alternative without a guard.
 use borrow.Author.Needs.{needs}
 use Rattle.pair.proofs.Sizes.{countable, size-counted, text-low, stores-low}
 use Rattle.pair.proofs.size_of.Statement.{statement}

@@ -1,3 +1,4 @@
+-- `slid_text` writes the alternative's text and ORs its delays to it.
 use borrow.Author.Needs.{needs}
 use Rattle.pair.proofs.Pairs.{slid-own-small, slid-further-small, slid-first-room, slid-ored-room, slid-done}
 use Rattle.pair.proofs.slid_text.Statement.{statement}

@@ -1,3 +1,4 @@
+-- `slide_stores` writes the text once, then one register after the other.
 use borrow.Author.Needs.{needs}
 use Rattle.pair.proofs.Pairs.{no-delays, delayed-room, delay-store-room, later-delays-room, delays-done}
 use Rattle.pair.proofs.slide_stores.Statement.{statement}

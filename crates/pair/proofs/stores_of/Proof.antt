@@ -1,3 +1,4 @@
+-- `stores_of` writes the assignments of all steps, without a guard.
 use borrow.Author.Needs.{needs}
 use Rattle.pair.proofs.Alternatives.{stores-ready, stores-room, stores-written}
 use Rattle.pair.proofs.stores_of.Statement.{statement}

@@ -1,3 +1,4 @@
+-- `text_of` writes the text after the last step, without a guard.
 use borrow.Author.Needs.{needs}
 use Rattle.pair.proofs.Alternatives.{text-before-fits, text-register-fits, text-ready, text-room, text-written}
 use Rattle.pair.proofs.text_of.Statement.{statement}

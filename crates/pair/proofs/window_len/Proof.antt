@@ -1,3 +1,4 @@
+-- `window_len` adds up the hops of the steps after the first; what is left of them is said in `Windowing`.
 use borrow.Author.Needs.{needs}
 use Prim.Native.Nat.{_-_}
 use Rattle.pair.specs.Stored.{count-in}

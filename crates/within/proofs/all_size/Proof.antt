@@ -1,3 +1,4 @@
+-- `all_size` adds up all alternatives of seq2; what is left is said in `AllSizes`.
 use borrow.Author.Needs.{needs}
 use Prim.Native.Nat.{_-_}
 use Rattle.within.proofs.Rows.{still-paired}

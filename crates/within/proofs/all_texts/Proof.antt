@@ -1,3 +1,4 @@
+-- `all_texts` goes through the alternatives of seq2; what is left is said in `AllTexts`.
 use borrow.Author.Needs.{needs}
 use Prim.Native.Nat.{_-_}
 use Rattle.within.proofs.Rows.{still-paired}

@@ -1,3 +1,4 @@
+-- `match_size` makes the one test of `match-size`.
 use borrow.Author.Needs.{needs}
 use Rattle.within.proofs.SizePass.{no-match-size, some-match-size}
 use Rattle.within.proofs.match_size.Statement.{statement}

@@ -1,3 +1,4 @@
+-- `nth_pair_registers` looks at the alternative of seq1 that it wrote into work.
 use borrow.Author.Needs.{needs}
 use Rattle.within.proofs.Rows.{placed-number, placed-room, part-kept, part-ends}
 use Rattle.within.proofs.RegisterPass.{nth-registers}

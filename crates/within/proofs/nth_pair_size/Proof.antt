@@ -1,3 +1,4 @@
+-- `nth_pair_size` counts the pair whose alternative of seq1 it wrote into work.
 use borrow.Author.Needs.{needs}
 use Rattle.within.proofs.Rows.{placed-number, placed-room, part-kept, part-ends}
 use Rattle.within.proofs.SizePass.{part-size-small, part-size-are}

@@ -1,3 +1,4 @@
+-- `nth_pair_stores` writes the assignments of the alternative of seq1 that it wrote into work.
 use borrow.Author.Needs.{needs}
 use Rattle.within.proofs.Rows.{placed-number, placed-room, part-kept, part-ends}
 use Rattle.within.proofs.StorePass.{part-stores-room, part-registers-small, part-registers-fit, part-register-fits, part-stores-done}

@@ -1,3 +1,4 @@
+-- `nth_pair_text` writes the text of the pair whose alternatives stand in work, and leaves seq2's there.
 use borrow.Author.Needs.{needs}
 use Rattle.within.proofs.Rows.{placed-number, placed-room, part-kept, part-ends}
 use Rattle.within.proofs.StorePass.{part-registers-small, part-registers-fit, part-register-fits}

@@ -1,3 +1,4 @@
+-- `pairs_registers` adds up the pairs of one alternative of seq2; what is left is said in `PairRegisters`.
 use borrow.Author.Needs.{needs}
 use Prim.Native.Nat.{_-_}
 use Rattle.within.proofs.RegisterPass.{PairRegisters, pair-registers-begin, pair-registers-on, pair-registers-fit, pair-registers-end}

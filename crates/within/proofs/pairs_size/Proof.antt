@@ -1,3 +1,4 @@
+-- `pairs_size` adds up the pairs of one alternative of seq2; what is left is said in `PairSizes`.
 use borrow.Author.Needs.{needs}
 use Prim.Native.Nat.{_-_}
 use Rattle.within.proofs.SizePass.{PairSizes, pair-sizes-begin, pair-sizes-small, pair-sizes-text-fits, pair-sizes-stores-fit, pair-sizes-on, pair-sizes-end, pair-sizes-text, pair-sizes-stores}

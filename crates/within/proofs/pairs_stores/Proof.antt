@@ -1,3 +1,4 @@
+-- `pairs_stores` writes one pair after the other; what is left is said in `PairStores`.
 use borrow.Author.Needs.{needs}
 use Prim.Native.Nat.{_-_}
 use Rattle.within.proofs.StorePass.{PairStores, pair-stores-begin, pair-stores-small, pair-stores-room, pair-stores-on, pair-stores-end}

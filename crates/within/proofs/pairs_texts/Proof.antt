@@ -1,3 +1,4 @@
+-- `pairs_texts` writes one pair's text after the other; what is left is said in `PairTexts`.
 use borrow.Author.Needs.{needs}
 use Prim.Native.Nat.{_-_}
 use Rattle.within.proofs.TextPass.{PairTexts, pair-texts-begin, texts-front-kept, texts-front-small, pair-texts-small, pair-texts-room, pair-texts-on, pair-texts-end}

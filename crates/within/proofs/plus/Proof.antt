@@ -1,3 +1,4 @@
+-- `plus` adds text to text and stores to stores.
 use borrow.Author.Needs.{needs}
 use Rattle.within.specs.AllSizes.{plus}
 use Rattle.within.proofs.plus.Statement.{statement}

@@ -1,3 +1,4 @@
+-- `put_match` writes 0 where no pair wrote a word.
 use borrow.Author.Needs.{needs}
 use Rattle.within.proofs.TextPass.{texts-room, zero-room, zero-done, pairs-done}
 use Rattle.within.proofs.put_match.Statement.{statement}

@@ -1,3 +1,4 @@
+-- `put_stores` writes one alternative of seq2 after the other; what is left is said in `AllStores`.
 use borrow.Author.Needs.{needs}
 use Prim.Native.Nat.{_-_}
 use Rattle.within.proofs.Rows.{still-paired}

@@ -1,3 +1,4 @@
+-- `registers` adds up all alternatives of seq2; what is left is said in `AllRegisters`.
 use borrow.Author.Needs.{needs}
 use Prim.Native.Nat.{_-_}
 use Rattle.within.proofs.Rows.{still-paired}

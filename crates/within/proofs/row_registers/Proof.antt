@@ -1,3 +1,4 @@
+-- `row_registers` adds seq2's own registers to those of its pairs.
 use borrow.Author.Needs.{needs}
 use Rattle.within.proofs.Rows.{placed-room, part-ends, front-stands, front-measured, seq2-placed, seq1-placed}
 use Rattle.within.proofs.RegisterPass.{row-registers-are, row-registers-fit}

@@ -1,3 +1,4 @@
+-- `row_size` adds seq2's own assignments to the words of its pairs.
 use borrow.Author.Needs.{needs}
 use Rattle.within.proofs.Rows.{placed-room, part-ends, front-stands, front-measured, seq2-placed, seq1-placed}
 use Rattle.within.proofs.SizePass.{row-size-own-small, row-size-pairs-small, row-size-are, row-size-text-fits, row-size-stores-fit, row-size-text, row-size-stores}

@@ -1,3 +1,4 @@
+-- `row_stores` writes seq2's own assignments, then those of its pairs.
 use borrow.Author.Needs.{needs}
 use Rattle.within.proofs.Rows.{placed-room, part-ends, front-stands, front-measured, seq2-placed, seq1-placed}
 use Rattle.within.proofs.StorePass.{row-own-fits, row-register-fits, row-own-small, row-own-room, row-pairs-small, row-pairs-room, row-stores-done}

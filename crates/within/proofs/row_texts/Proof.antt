@@ -1,3 +1,4 @@
+-- `row_texts` writes the texts of the pairs of one alternative of seq2.
 use borrow.Author.Needs.{needs}
 use Rattle.within.proofs.Rows.{placed-room, part-ends, front-stands, front-measured, seq2-placed, seq1-placed}
 use Rattle.within.proofs.StorePass.{row-own-fits, row-register-fits, row-own-small, row-pairs-small}

@@ -1,3 +1,4 @@
+-- `word_count` adds the assignments, the match and the match's own word.
 use borrow.Author.Needs.{needs}
 use Rattle.within.proofs.SizePass.{words-counted}
 use Rattle.within.proofs.word_count.Statement.{statement}

@@ -1,3 +1,4 @@
+-- `write` puts the assignments, the match and the match's own word one after the other.
 use borrow.Author.Needs.{needs}
 use Rattle.within.proofs.Rows.{still-paired}
 use Rattle.within.proofs.Whole.{stores-have-room, match-has-room, end-has-room, listing-written}

@@ -1,0 +1,43 @@
+-- `listing` lends the part of its array that the tree fills.
+use mathlib.Core.Path.{sym}
+use lib.Seq.{length-take-le}
+use borrow.Author.Needs.{needs}
+use Rattle.camera.proofs.assertions.listing.Statement.{statement}
+use Rattle.camera.proofs.assertions.listing.Tie as tie
+
+slice-aggregate-planted : tie.Need-slice-aggregate-planted
+slice-aggregate-planted c = search needs
+
+planted-requires : tie.Need-planted-requires
+planted-requires c κs = search needs
+
+array-share-prefix-tree : tie.Need-array-share-prefix-tree
+array-share-prefix-tree c = search needs
+
+slice-aggregate-lowered : tie.Need-slice-aggregate-lowered
+slice-aggregate-lowered c = let w = c .before .before .planted in sym (length-take-le (w .result) (w .last .1 .0) (w .ensures))
+
+lowered-requires : tie.Need-lowered-requires
+lowered-requires c κs = search needs
+
+same-length : tie.Need-same-length
+same-length c = search needs
+
+same-length-2 : tie.Need-same-length-2
+same-length-2 c = search needs
+
+returns : tie.Need-returns
+returns c = search needs
+
+pub listing-spec : {M : Type 1} → statement M
+listing-spec =
+    tie.close
+    (tie.spec
+    slice-aggregate-planted
+    planted-requires
+    array-share-prefix-tree
+    slice-aggregate-lowered
+    lowered-requires
+    same-length
+    same-length-2
+    returns)

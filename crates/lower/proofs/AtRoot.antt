@@ -1,0 +1,106 @@
+-- What the walk leaves of a root, by its kind: a within whose operands are paired, or a choice whose alternatives it counted.
+-- From the definitions of the walk, node by node.
+use mathlib.Core.Path.{_≡_, refl, sym, ap, _∙_}
+use mathlib.Core.List.{List}
+use Prim.Native.Nat.{ℕ, zero, suc, _+_, _-_, _/_, _<_, _≤_}
+use native.Mathlib.Omega.{arith}
+use lib.ListN.{length}
+use Rattle.meaning.specs.Tree.{finite, unbounded, Seq, atom, delay, consec, goto, nonconsec, throughout, within, nodeAt, treeAt, nodes, below, root}
+use Rattle.meaning.specs.Alternative.{expand}
+use Rattle.meaning.specs.Refusals.{counts, room-of}
+use Rattle.meaning.specs.Lowerable.{FormedTable, Walkable, WalkableRoot}
+use Rattle.meaning.specs.declared.Node.{Node}
+use Rattle.meaning.specs.declared.Counts.{Counts}
+use Rattle.meaning.proofs.Nodes.{at-atom, at-delay, at-consec, at-goto, at-nonconsec, at-throughout, at-within}
+use Rattle.meaning.proofs.Ranges.{by-kind}
+use Rattle.meaning.proofs.Walks.{root-counts, a-walked-root-is-walkable, the-walk-counts-the-root}
+use Rattle.expand.specs.ByNumber.{alternatives-of}
+use Rattle.choice.specs.Passes.{Root}
+use Rattle.within.specs.Rows.{Paired}
+use Rattle.lower.specs.Stages.{RootWithin, Walks}
+
+-- A node of another kind than 7 is walked as any node below the root is.
+no-within : (t : List ℕ) (n room : ℕ) → FormedTable t → n < nodes t → (nodeAt t n .kind ≡ 7 → ⊥) → WalkableRoot room (treeAt t n) → Walkable room (treeAt t n)
+unfolding WalkableRoot
+no-within t n room formed inside other W =
+    let w = formed .each n inside in
+    by-kind (nodeAt t n .kind) (w .known)
+    (λ k. rw (at-atom t n k) (rw (at-atom t n k) at W))
+    (λ k. let e = at-delay t n k (w .delay-left k) (w .delay-right k) in rw e (rw e at W))
+    (λ k. let e = at-consec t n k (w .consec-under k) in rw e (rw e at W))
+    (λ k. let e = at-goto t n k (w .goto-under k) in rw e (rw e at W))
+    (λ k. let e = at-nonconsec t n k (w .nonconsec-under k) in rw e (rw e at W))
+    (λ k. let e = at-throughout t n k (w .throughout-under k) in rw e (rw e at W))
+    (λ k. absurd (other k))
+
+-- Its counts are those of its alternatives.
+counted-alternatives : (room : ℕ) (s : Seq) → Walkable room s → root-counts s .alternatives ≡ length (expand s)
+unfolding Walkable counts
+counted-alternatives room (atom n a) W = refl
+counted-alternatives room (delay n l r m x) W = refl
+counted-alternatives room (consec n s m x) W = refl
+counted-alternatives room (goto n s k) W = refl
+counted-alternatives room (nonconsec n s k) W = refl
+counted-alternatives room (throughout n c s) W = refl
+counted-alternatives room (within n s₁ s₂) W = absurd W
+
+last-node : (count : ℕ) → 1 ≤ count → count - 1 ≡ below count
+last-node zero h = absurd (omega arith)
+last-node (suc count) h = omega arith
+
+module _ {t : List ℕ} {work : ℕ} {c : Counts} (W : Walks t work c) {v : Node} (e : v ≡ nodeAt t (length t / 5 - 1)) where
+  abbrev n : ℕ
+  n = length t / 5 - 1
+
+  is-last : n ≡ below (nodes t)
+  is-last = last-node (nodes t) (W .formed .some)
+
+  is-inside : n < nodes t
+  is-inside = omega (arith, W .formed .some)
+
+  walkable-root : WalkableRoot (room-of work) (treeAt t n)
+  walkable-root = rw is-last (a-walked-root-is-walkable (room-of work) (root t) c (sym (W .walks)))
+
+  -- A root of another kind than 7.
+  module _ (other : v .kind ≡ 7 → ⊥) where
+    walkable : Walkable (room-of work) (treeAt t n)
+    walkable = no-within t n (room-of work) (W .formed) is-inside (λ k. other (rw e k)) walkable-root
+
+    pub root-is-chosen : Root t n (c .alternatives) work
+    unfolding alternatives-of
+    root-is-chosen = record {
+      formed = W .formed;
+      inside = is-inside;
+      walkable = walkable;
+      counted =
+          ap (λ (x : Counts). x .alternatives) (the-walk-counts-the-root (room-of work) (root t) c (sym (W .walks)))
+          ∙ rw (← is-last) (counted-alternatives (room-of work) (treeAt t n) walkable);
+    }
+
+    pub root-is-last : n ≡ below (nodes t)
+    root-is-last = is-last
+
+  -- A root within.
+  module _ (k : v .kind ≡ 7) where
+    here : nodeAt t n .kind ≡ 7
+    here = rw (← e) k
+
+    pair : treeAt t n ≡ within n (treeAt t (nodeAt t n .p)) (treeAt t (nodeAt t n .q))
+    pair = at-within t n here (W .formed .each n is-inside .within-one here) (W .formed .each n is-inside .within-two here)
+
+    pub root-is-within : RootWithin t (v .p) (v .q)
+    root-is-within = record { number = n; is = rw (← is-last, e) pair }
+
+    pub operands-are-paired : Paired t (v .p) (v .q) work
+    unfolding alternatives-of WalkableRoot
+    operands-are-paired =
+        let walked = rw pair at walkable-root in
+        let lower = W .formed .each n is-inside in
+        rw e (record {
+          formed = W .formed;
+          one-inside = omega (arith, lower .within-one here, is-inside);
+          two-inside = omega (arith, lower .within-two here, is-inside);
+          one = walked .0;
+          two = walked .1;
+          pairs = walked .2;
+        })

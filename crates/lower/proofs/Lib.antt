@@ -1,0 +1,4 @@
+pub mod Named
+pub mod Operands
+pub mod Laws
+pub mod AtRoot

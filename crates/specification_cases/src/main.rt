@@ -1,5 +1,12 @@
-// 01's cases, starred or not, and trees that reach every kind of term after every kind of hop: what each lowers to, as text, or its
-// refusal. The file `stdout` was made by the original's `synth_seq_match`; its refusals' numbers and places are 01's.
+// 01's cases, starred or not, with choices, Empties and withins: what each tree lowers to, as text, or its refusal. The file `stdout`
+// was made by the original's `synth_seq_match`; the refusals' numbers and places are 01's.
+use lowerings_shown::five;
+use lowerings_shown::four;
+use lowerings_shown::one;
+use lowerings_shown::seven;
+use lowerings_shown::six;
+use lowerings_shown::three;
+use lowerings_shown::two;
 use small_trees::A;
 use small_trees::B;
 use small_trees::C;
@@ -7,79 +14,8 @@ use small_trees::consec;
 use small_trees::delay;
 use small_trees::goto;
 use small_trees::node;
-use small_trees::nonconsec;
 use small_trees::throughout;
 use small_trees::within;
-
-// The tree's name, and its text below it.
-fn show(name: &[u8], t: &[u32]) {
-    io::write_all(1, name);
-    io::write_all(1, b"\n");
-    let mut page = [0u8; 524416];
-    let end = lowered_text::print(t, &mut page);
-    io::write_all(1, &page[..end]);
-}
-
-// A tree of one node, of two, and so on.
-fn one(name: &[u8], a: meaning::Node) {
-    let mut t = [0u32; 5];
-    small_trees::put(&mut t, 0, a);
-    show(name, &t);
-}
-
-fn two(name: &[u8], a: meaning::Node, b: meaning::Node) {
-    let t = small_trees::of_two(a, b);
-    show(name, &t);
-}
-
-fn three(name: &[u8], a: meaning::Node, b: meaning::Node, c: meaning::Node) {
-    let t = small_trees::of_three(a, b, c);
-    show(name, &t);
-}
-
-fn four(name: &[u8], a: meaning::Node, b: meaning::Node, c: meaning::Node, d: meaning::Node) {
-    let t = small_trees::of_four(a, b, c, d);
-    show(name, &t);
-}
-
-fn five(
-    name: &[u8],
-    a: meaning::Node,
-    b: meaning::Node,
-    c: meaning::Node,
-    d: meaning::Node,
-    e: meaning::Node,
-) {
-    let t = small_trees::of_five(a, b, c, d, e);
-    show(name, &t);
-}
-
-fn six(
-    name: &[u8],
-    a: meaning::Node,
-    b: meaning::Node,
-    c: meaning::Node,
-    d: meaning::Node,
-    e: meaning::Node,
-    f: meaning::Node,
-) {
-    let t = small_trees::of_six(a, b, c, d, e, f);
-    show(name, &t);
-}
-
-fn seven(
-    name: &[u8],
-    a: meaning::Node,
-    b: meaning::Node,
-    c: meaning::Node,
-    d: meaning::Node,
-    e: meaning::Node,
-    f: meaning::Node,
-    g: meaning::Node,
-) {
-    let t = small_trees::of_seven(a, b, c, d, e, f, g);
-    show(name, &t);
-}
 
 // 01's starred rows.
 fn starred_rows() {
@@ -123,153 +59,6 @@ fn starred_rows() {
         within(2, 3),
     );
     four(b"(b ##1 c)[->1]", B, C, delay(0, 1, 1, 1), goto(2, 1));
-}
-
-// A Bool after each kind of hop.
-fn bool_after_each_hop() {
-    three(b"a ##0 b", A, B, delay(0, 1, 0, 0));
-    three(b"a ##2 b", A, B, delay(0, 1, 2, 2));
-    three(b"a ##[0:$] b", A, B, delay(0, 1, 0, tree::UNLIMITED));
-    three(b"a ##[1:$] b", A, B, delay(0, 1, 1, tree::UNLIMITED));
-    three(b"a ##[3:$] b", A, B, delay(0, 1, 3, tree::UNLIMITED));
-}
-
-// A goto, of one and of more, after each kind of hop.
-fn goto_after_each_hop() {
-    four(b"a ##0 b[->2]", A, B, goto(1, 2), delay(0, 2, 0, 0));
-    four(b"a ##2 b[->2]", A, B, goto(1, 2), delay(0, 2, 2, 2));
-    four(
-        b"a ##[0:$] b[->2]",
-        A,
-        B,
-        goto(1, 2),
-        delay(0, 2, 0, tree::UNLIMITED),
-    );
-    four(
-        b"a ##[1:$] b[->2]",
-        A,
-        B,
-        goto(1, 2),
-        delay(0, 2, 1, tree::UNLIMITED),
-    );
-    four(
-        b"a ##[3:$] b[->2]",
-        A,
-        B,
-        goto(1, 2),
-        delay(0, 2, 3, tree::UNLIMITED),
-    );
-}
-
-// A nonconsecutive repetition after each kind of hop.
-fn nonconsec_after_each_hop() {
-    four(b"a ##0 b[=2]", A, B, nonconsec(1, 2), delay(0, 2, 0, 0));
-    four(b"a ##2 b[=2]", A, B, nonconsec(1, 2), delay(0, 2, 2, 2));
-    four(
-        b"a ##[0:$] b[=2]",
-        A,
-        B,
-        nonconsec(1, 2),
-        delay(0, 2, 0, tree::UNLIMITED),
-    );
-    four(
-        b"a ##[1:$] b[=2]",
-        A,
-        B,
-        nonconsec(1, 2),
-        delay(0, 2, 1, tree::UNLIMITED),
-    );
-    four(
-        b"a ##[3:$] b[=2]",
-        A,
-        B,
-        nonconsec(1, 2),
-        delay(0, 2, 3, tree::UNLIMITED),
-    );
-}
-
-// A run of at least so many after each kind of hop.
-fn run_after_each_hop() {
-    four(
-        b"a ##0 b[*2:$]",
-        A,
-        B,
-        consec(1, 2, tree::UNLIMITED),
-        delay(0, 2, 0, 0),
-    );
-    four(
-        b"a ##2 b[*2:$]",
-        A,
-        B,
-        consec(1, 2, tree::UNLIMITED),
-        delay(0, 2, 2, 2),
-    );
-    four(
-        b"a ##[0:$] b[*2:$]",
-        A,
-        B,
-        consec(1, 2, tree::UNLIMITED),
-        delay(0, 2, 0, tree::UNLIMITED),
-    );
-    four(
-        b"a ##[1:$] b[*2:$]",
-        A,
-        B,
-        consec(1, 2, tree::UNLIMITED),
-        delay(0, 2, 1, tree::UNLIMITED),
-    );
-    four(
-        b"a ##[3:$] b[*2:$]",
-        A,
-        B,
-        consec(1, 2, tree::UNLIMITED),
-        delay(0, 2, 3, tree::UNLIMITED),
-    );
-}
-
-// Machines of count one keep the expression before them.
-fn machines_of_one() {
-    four(b"a ##1 b[->1]", A, B, goto(1, 1), delay(0, 2, 1, 1));
-    four(b"a ##0 b[=1]", A, B, nonconsec(1, 1), delay(0, 2, 0, 0));
-    four(
-        b"a ##1 b[*1:$]",
-        A,
-        B,
-        consec(1, 1, tree::UNLIMITED),
-        delay(0, 2, 1, 1),
-    );
-    two(b"b[=1]", B, nonconsec(0, 1));
-    two(b"b[*1:$]", B, consec(0, 1, tree::UNLIMITED));
-    two(b"b[*3:$]", B, consec(0, 3, tree::UNLIMITED));
-}
-
-// Every machine in front of another term.
-fn terms_after_machines() {
-    four(b"a[->2] ##1 b", A, goto(0, 2), B, delay(1, 2, 1, 1));
-    four(b"a[=2] ##0 b", A, nonconsec(0, 2), B, delay(1, 2, 0, 0));
-    four(
-        b"a[*2:$] ##[1:$] b",
-        A,
-        consec(0, 2, tree::UNLIMITED),
-        B,
-        delay(1, 2, 1, tree::UNLIMITED),
-    );
-    five(
-        b"a[->1] ##[0:$] b[->1]",
-        A,
-        goto(0, 1),
-        B,
-        goto(2, 1),
-        delay(1, 3, 0, tree::UNLIMITED),
-    );
-    five(
-        b"a[=1] ##[0:$] b[=1]",
-        A,
-        nonconsec(0, 1),
-        B,
-        nonconsec(2, 1),
-        delay(1, 3, 0, tree::UNLIMITED),
-    );
 }
 
 // Empty after and before fixed hops, and where it is refused.
@@ -321,55 +110,6 @@ fn empties() {
         delay(0, 2, 1, tree::UNLIMITED),
         C,
         delay(3, 4, 1, 1),
-    );
-}
-
-// Guards joined from both sides, and over delays.
-fn guards() {
-    five(
-        b"(c throughout a) ##1 (d throughout b)",
-        A,
-        throughout(2, 0),
-        B,
-        throughout(3, 2),
-        delay(1, 3, 1, 1),
-    );
-    four(
-        b"(c throughout (d throughout a))[*2]",
-        A,
-        throughout(3, 0),
-        throughout(2, 1),
-        consec(2, 2, 2),
-    );
-    four(
-        b"c throughout (a ##2 b)",
-        A,
-        B,
-        delay(0, 1, 2, 2),
-        throughout(2, 2),
-    );
-    two(b"c throughout a", A, throughout(2, 0));
-    four(
-        b"(c throughout a) ##[2:$] b",
-        A,
-        throughout(2, 0),
-        B,
-        delay(1, 2, 2, tree::UNLIMITED),
-    );
-    five(
-        b"(c throughout a) ##1 b[->1]",
-        A,
-        throughout(2, 0),
-        B,
-        goto(2, 1),
-        delay(1, 3, 1, 1),
-    );
-    four(
-        b"d throughout c throughout a[*1:2]",
-        A,
-        consec(0, 1, 2),
-        throughout(2, 1),
-        throughout(3, 2),
     );
 }
 
@@ -500,14 +240,7 @@ fn limits() {
 
 fn main() {
     starred_rows();
-    bool_after_each_hop();
-    goto_after_each_hop();
-    nonconsec_after_each_hop();
-    run_after_each_hop();
-    machines_of_one();
-    terms_after_machines();
     empties();
-    guards();
     choices();
     withins();
     too_large();

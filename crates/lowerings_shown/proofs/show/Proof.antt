@@ -2,10 +2,10 @@
 use mathlib.Core.Path.{sym}
 use lib.Seq.{length-take-le}
 use borrow.Author.Needs.{needs}
-use Rattle.specification_cases.proofs.show.Statement.{statement}
-use Rattle.specification_cases.proofs.show.Tie as tie
-use Rattle.specification_cases.proofs.show.Reads as reads
-use Rattle.specification_cases.proofs.show.Lts as lts
+use Rattle.lowerings_shown.proofs.show.Statement.{statement}
+use Rattle.lowerings_shown.proofs.show.Tie as tie
+use Rattle.lowerings_shown.proofs.show.Reads as reads
+use Rattle.lowerings_shown.proofs.show.Lts as lts
 use Rattle.io.proofs.write_all.Reads as write-all-reads
 use Rattle.lowered_text.proofs.print.Reads as print-reads
 

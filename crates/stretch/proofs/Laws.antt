@@ -18,7 +18,7 @@ use Rattle.meaning.specs.declared.Checked.the-variants.{Described, Faulty}
 use Rattle.stretch.specs.Assignment.{assignment, drives, assignment-at, another-at}
 
 -- A test does not come out both ways.
-never : {A : Type 0} → true ≡ false → A
+pub never : {A : Type 0} → true ≡ false → A
 never e = absurd (subst T e tt)
 
 -- A negated test, as the choice that `another-at` makes.
@@ -157,7 +157,7 @@ unfolding pick
 test-holds true here e = never (sym e)
 test-holds false here e = (refl, e)
 
-test-fails : {A : Type 0} (of-r here : Bool) → pick of-r false here ≡ false → (of-r ≡ true → A) → (here ≡ false → A) → A
+pub test-fails : {A : Type 0} (of-r here : Bool) → pick of-r false here ≡ false → (of-r ≡ true → A) → (here ≡ false → A) → A
 unfolding pick
 test-fails true here e f g = f refl
 test-fails false here e f g = g e
@@ -174,7 +174,7 @@ walking-begins listing r = record { inside = omega arith; rest = refl }
 module _ {listing : List ℕ} {r at : ℕ} (g : Walking listing r at) where
   module _ (e : another-at listing at r ≡ true) where
     -- Where the test holds, the assignment is passed.
-    passed : (drives (drop at listing) r ≡ false) × (at < length listing)
+    pub passed : (drives (drop at listing) r ≡ false) × (at < length listing)
     unfolding another-at
     passed = let t = test-holds (drives (drop at listing) r) (ltb at (length listing)) e in (t .0, ltb-true _ _ (t .1))
 

@@ -1,3 +1,4 @@
 pub mod Laws
 pub mod Held
 pub mod Standing
+pub mod Starting

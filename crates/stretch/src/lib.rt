@@ -5,13 +5,15 @@
 //
 // Functions on a plain slice and a place do the reading. The reader's own functions take it apart and call them, no more:
 // the proof of a function over a struct that holds a reference goes by hand through its MIR. `driving` walks with
-// the reader from assignment to assignment, and `stretch`, which others call, has plain parameters.
+// the reader from assignment to assignment, and `stretch`, which others call, has plain parameters. `start` is for a caller
+// who cannot be handed a part, and takes its place.
 ghost use mathlib.Core.Path.{_≡_};
 ghost use mathlib.Core.List.{[]};
 ghost use Prim.Native.Nat.{_+_};
 ghost use lib.ListN.{length};
 ghost use Rattle.meaning.specs.Check.{stretch as «stretch-of», «stretch-from»};
 ghost use Rattle.stretch.specs.Assignment.{«assignment-at», «another-at»};
+ghost use Rattle.stretch.specs.Start.{«start-from», «stretch-start»};
 
 // Whether a word stands at the place, and the assignment that begins there does not drive the register.
 fn another_at(listing: &[u32], place: usize, register: u32) -> bool
@@ -113,4 +115,28 @@ pub fn stretch(listing: &[u32], register: u32) -> &[u32]
         return &listing[..0];
     };
     driving(listing, register)
+}
+
+// The place where the assignment of the register begins, in a listing that is as described; 0 if none does.
+fn driving_start(listing: &[u32], register: u32) -> usize
+    ensures { λ r. ⌜ r ≡ start-from 0 0 (now (listing .entry)) register ⌝ }
+{
+    let mut here = 0;
+    while another_at(listing, here, register) {
+        here = assignment_end(listing, here);
+    }
+    if here < listing.len() {
+        return here;
+    }
+    0
+}
+
+// The place of the first word that drives the register; 0 where `stretch` is empty.
+pub fn start(listing: &[u32], register: u32) -> usize
+    ensures { λ r. ⌜ r ≡ stretch-start (now (listing .entry)) register ⌝ }
+{
+    let meaning::Checked::Described = listing::checked(listing) else {
+        return 0;
+    };
+    driving_start(listing, register)
 }

@@ -1,0 +1,3 @@
+pub mod Laws
+pub mod OneOutcome
+pub mod Numbers

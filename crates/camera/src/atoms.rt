@@ -1,7 +1,7 @@
 // What the assertions watch: the atoms of a tick, a byte each, 0 or 1. They are asked of the sensor and of what leaves; no map
 // plays a part.
 //
-// Example: at tick 352 with the map transposed, row 0, column 350 leaves as it came: KEPT_OUT and WRONG_OUT are 1.
+// Example: at tick 352 with the map transposed, row 0, column 350 leaves as it came: KEPT and WRONG are 1.
 use crate::sensor;
 ghost use Prim.Native.Nat.{_<_};
 
@@ -9,9 +9,9 @@ ghost use Prim.Native.Nat.{_<_};
 pub const HOT_IN: u32 = 0;
 
 // The sensor is not defective there; it is.
-pub const ORDINARY_IN: u32 = 1;
+pub const GOOD_IN: u32 = 1;
 
-pub const DEFECTIVE_IN: u32 = 2;
+pub const BAD_IN: u32 = 2;
 
 // A row begins; none does.
 pub const ROW_START: u32 = 3;
@@ -19,12 +19,12 @@ pub const ROW_START: u32 = 3;
 pub const IN_ROW: u32 = 4;
 
 // The pixel that leaves was replaced; it is as it came.
-pub const REPLACED_OUT: u32 = 5;
+pub const REPLACED: u32 = 5;
 
-pub const KEPT_OUT: u32 = 6;
+pub const KEPT: u32 = 6;
 
 // It has another value than its row and the one above give.
-pub const WRONG_OUT: u32 = 7;
+pub const WRONG: u32 = 7;
 
 // A fact as an atom.
 fn bit(fact: bool) -> u8 {

@@ -5,17 +5,17 @@ use borrow.Author.Needs.{needs}
 use Rattle.camera.proofs.assertions.listing.Statement.{statement}
 use Rattle.camera.proofs.assertions.listing.Tie as tie
 
-slice-aggregate-planted : tie.Need-slice-aggregate-planted
-slice-aggregate-planted c = search needs
+slice-aggregate-tree-of : tie.Need-slice-aggregate-tree-of
+slice-aggregate-tree-of c = search needs
 
-planted-requires : tie.Need-planted-requires
-planted-requires c κs = search needs
+tree-of-requires : tie.Need-tree-of-requires
+tree-of-requires c κs = search needs
 
 array-share-prefix-tree : tie.Need-array-share-prefix-tree
 array-share-prefix-tree c = search needs
 
 slice-aggregate-lowered : tie.Need-slice-aggregate-lowered
-slice-aggregate-lowered c = let w = c .before .before .planted in sym (length-take-le (w .result) (w .last .1 .0) (w .ensures))
+slice-aggregate-lowered c = let w = c .before .before .tree-of in sym (length-take-le (w .result) (w .last .1 .0) (w .ensures))
 
 lowered-requires : tie.Need-lowered-requires
 lowered-requires c κs = search needs
@@ -33,8 +33,8 @@ pub listing-spec : {M : Type 1} → statement M
 listing-spec =
     tie.close
     (tie.spec
-    slice-aggregate-planted
-    planted-requires
+    slice-aggregate-tree-of
+    tree-of-requires
     array-share-prefix-tree
     slice-aggregate-lowered
     lowered-requires

@@ -1,0 +1,2 @@
+pub mod TheStandardIsMet
+pub mod EveryListingRuns

@@ -1,0 +1,50 @@
+-- What a caller of the shipped functions does, and what demand 3 lets it expect. It speaks of the contracts of `lower` and of
+-- `tick`, and of the standard's matches, and of nothing between them.
+-- Example: of `a ##1 b` the answer is Listing 1 8 2. The caller lends tick the first 8 words of the output, one byte of
+-- registers now and one for the next, two atoms, and a stack of two bytes.
+use mathlib.Core.Path.{_≡_}
+use mathlib.Core.Logic.{_↔_, _⊎_}
+use mathlib.Core.List.{List}
+use Prim.Native.Nat.{ℕ, zero, suc, _≤_}
+use lib.ListN.{length, getD, take, replicate}
+use Rattle.meaning.specs.Tree.{root}
+use Rattle.meaning.specs.Match.{Match}
+use Rattle.meaning.specs.Listing.{atoms-named}
+use Rattle.meaning.specs.Demand3.{trace}
+use Rattle.meaning.specs.declared.Lowered.the-variants.{Listing}
+use Rattle.meaning.specs.declared.Ticked.{Ticked}
+use Rattle.meaning.specs.declared.Ticked.the-variants.{Match as MatchBit}
+use Rattle.lower.specs.Answers.{Lowers}
+use Rattle.tick.specs.Stepped.{Stepped}
+
+-- A tree is lowered once, and its listing is ticked for good. What stands at tick n is cur n, and so for all that is lent then;
+-- a name with a prime is what was lent, after the call.
+pub record RunsAsShipped (tree work work′ out out′ : List ℕ) (registers words deepest : ℕ) (cur atoms next next′ stack stack′ : ℕ → List ℕ)
+    (answer : ℕ → Ticked) : Type 0 where
+  -- The contract of `lower`, at an answer that is a listing.
+  pub lowered : Lowers tree 0 work out (Listing registers words deepest) work′ out′
+  -- The contract of `tick`, at each tick, for the words that were handed out.
+  pub ticked : (n : ℕ) → Stepped (take words out′) (cur n) (atoms n) (next n) (next′ n) (stack n) (stack′ n) (answer n)
+  -- The registers are zero at tick 0, and at each later tick as the one before left them.
+  pub zeroed : take registers (cur zero) ≡ replicate registers 0
+  pub goes-on : (n : ℕ) → cur (suc n) ≡ next′ n
+  -- What is lent has the sizes that the answer counts, and an atom for each that the words name.
+  pub next-long : (n : ℕ) → registers ≤ length (next n)
+  pub stack-long : (n : ℕ) → deepest ≤ length (stack n)
+  pub atoms-long : (n : ℕ) → atoms-named (take words out′) ≤ length (atoms n)
+  -- Each atom's byte is 0 or 1.
+  pub atoms-bits : (n a : ℕ) → getD (atoms n) a 0 ≤ 1
+
+-- Some match of the tree, as the standard defines it, began at tick 0 or later and ends at tick n.
+abbrev pub AMatchEnds : List ℕ → (ℕ → List ℕ) → ℕ → Type 0
+AMatchEnds tree atoms n = (i : ℕ) × (i ≤ n) × Match (trace atoms) (root tree) i (suc n)
+
+-- An answer that is no refusal.
+abbrev pub IsABit : Ticked → Type 0
+IsABit answer = (answer ≡ MatchBit 1) ⊎ (answer ≡ MatchBit 0)
+
+-- Demand 3 of the answer at tick n: 1 exactly when a match ends there, 0 exactly when none does, and one of the two.
+pub record MeetsTheStandard (tree : List ℕ) (atoms : ℕ → List ℕ) (n : ℕ) (answer : Ticked) : Type 0 where
+  pub one : (answer ≡ MatchBit 1) ↔ AMatchEnds tree atoms n
+  pub none : (answer ≡ MatchBit 0) ↔ (AMatchEnds tree atoms n → ⊥)
+  pub a-bit : IsABit answer

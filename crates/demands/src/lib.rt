@@ -1,0 +1,7 @@
+// What the contracts of the public functions promise together. No function stands here: what is said is in specs/, and its
+// proofs are in proofs/.
+//
+// Demand 3 of what is shipped: whoever calls `lower` once and `tick` at each tick is answered 1 exactly where a match ends
+// (proofs/TheStandardIsMet.antt).
+//
+// Example: for `a ##1 b` and atoms 1,0 then 0,1 then 0,0 the answers are 0, 1, 0, whatever else the buffers hold.

@@ -1,4 +1,3 @@
 pub mod MapLaws
 pub mod RowLaws
 pub mod Frame
-pub mod OneOutcome

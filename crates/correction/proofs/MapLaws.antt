@@ -5,6 +5,7 @@ use mathlib.Core.Bool.{Bool, true, false}
 use mathlib.Core.List.{List, [], _∷_}
 use Prim.Native.Nat.{ℕ, zero, suc, _+_, _-_, _*_, _/_, _%_, _≤_, _<_}
 use native.Mathlib.Omega.{arith}
+use native.Mathlib.Decide.{decLe}
 use lib.ListN.{length, getD, drop, drop-of-length-le}
 use lib.Seq.{drop-drop}
 use borrow.Author.Tests.{ltb-false, leb-false, eq-eqb, ne-eqb, lt-ltb, le-ltb, le-leb, lt-leb}
@@ -123,7 +124,7 @@ none-before-at-the-end (entry ∷ map) (suc n) from row column h k o =
     none-before-at-the-end map n (tickOf entry + 1) row column h (omega (arith, f .later)) (f .rest)
 
 -- Of two counts of entries that are reached, none is the lower.
-pub not-fewer : {map : List ℕ} {reached more tick : ℕ} → Reached map reached tick → Reached map more tick → reached < more → ⊥
+not-fewer : {map : List ℕ} {reached more tick : ℕ} → Reached map reached tick → Reached map more tick → reached < more → ⊥
 unfolding names
 not-fewer {map} {reached} {more} {tick} R M h =
     let here = getD map reached 0 in
@@ -142,6 +143,13 @@ not-fewer {map} {reached} {more} {tick} R M h =
     ∙ rw e (none-before-at-the-end rest (more - (reached + 1)) (tickOf here + 1) row column (f .column) (omega arith) (f .rest)) in
     let z : _≡_ {A = ℕ} 0 1 = cc in
     omega arith
+
+-- So as many entries are reached, however one counts them.
+pub reached-once : {map : List ℕ} {r s tick : ℕ} → Reached map r tick → Reached map s tick → r ≡ s
+reached-once {r = r} {s = s} R S = elim (decLe r s) [
+  | yes a ↦ elim (decLe s r) [ yes b ↦ omega arith | no b ↦ absurd (not-fewer R S (omega arith)) ]
+  | no a ↦ absurd (not-fewer S R (omega arith))
+]
 
 -- Checking a map: its first i entries were in order, and the rest has to come in at the tick from or later.
 pub record Checking (map : List ℕ) (from i : ℕ) : Type 0 where

@@ -1,2 +1,9 @@
 pub mod TheStandardIsMet
 pub mod EveryListingRuns
+pub mod Premises
+pub mod OneOutcome
+pub mod TreesHaveOneOutcome
+pub mod AlternativesHaveOneOutcome
+pub mod RootsHaveOneOutcome
+pub mod ListingsHaveOneOutcome
+pub mod CorrectionHasOneOutcome

@@ -1,62 +1,42 @@
 -- What is read from work once an alternative is kept there: its steps, its guard, its registers, and that all of them are small
 -- enough for words. From what the checks, the walk and the room for both halves leave.
-use mathlib.Core.Path.{_≡_, refl, sym, ap, subst, _∙_}
-use mathlib.Core.List.{List, [], _∷_, _++_}
+use mathlib.Core.Path.{_≡_, sym, ap, _∙_}
+use mathlib.Core.List.{List, [], _∷_}
 use Prim.Native.Nat.{ℕ, zero, suc, _+_, _*_, _-_, _<_, _≤_, _/_}
 use native.Mathlib.Nat.{zero-add, add-zero}
 use native.Mathlib.Omega.{arith}
-use lib.Dec.{ltb}
 use lib.ListN.{length, getD, take, drop}
-use borrow.Author.Tests.{ltb-true, ltb-false}
-use Rattle.words.specs.Choice.{pick-case}
 use Rattle.words.specs.Written.{written}
-use Rattle.words.proofs.Laws.{read-back, length-written}
-use Rattle.term.specs.Steps.{termAtom}
-use Rattle.meaning.specs.declared.SeqTerm.{SeqTerm}
-use Rattle.meaning.specs.declared.SeqTerm.the-variants.{Bool as BoolTerm, Goto, Nonconsec, ConsecAtLeast, Empty}
+use Rattle.words.proofs.Laws.{read-back, length-written, written-below, written-part}
+use Rattle.term.specs.Steps.{term-atom, steps-words, nth-step, Stored}
 use Rattle.meaning.specs.declared.SeqHop.the-variants.{Fixed}
 use Rattle.meaning.specs.declared.SeqStep.{SeqStep}
-use Rattle.meaning.specs.Tree.{treeAt}
+use Rattle.meaning.specs.Tree.{tree-at}
 use Rattle.meaning.specs.Alternative.{Guard, SeqAlt, step, rehop, expand}
 use Rattle.meaning.specs.Pipeline.{synth-seq-pipeline}
-use Rattle.meaning.specs.Refusals.{room-of}
-use Rattle.meaning.proofs.Counting.{size}
+use Rattle.meaning.proofs.Counting.{length-rehop}
 use Rattle.meaning.proofs.Ranges.{a-formed-tree-is-ranged}
-use Rattle.expand.specs.ByNumber.{alternatives-of, nth, stepsWords, alternative-words}
-use Rattle.expand.proofs.Every.{HasStep, has-step, each-expanded, each-nth}
+use Rattle.meaning.proofs.Walks.{room-is-small}
+use Rattle.expand.specs.ByNumber.{alternatives-of, nth, alternative-words}
+use Rattle.expand.proofs.Every.{has-step, each-expanded, each-nth}
 use Rattle.expand.proofs.Room.{size-within-room, length-of-alternative}
 use Rattle.guards.specs.GuardText.{closed-guard}
-use Rattle.current.specs.Text.{nthStep, Stored, guardWords, registersBefore}
+use Rattle.term.specs.Guards.{guard-words}
+use Rattle.current.specs.Text.{registers-before}
 use Rattle.current.proofs.Bridge.{the-registers-are-counted}
 use Rattle.choice.specs.Alternatives.{registers-in}
 use Rattle.choice.specs.Passes.{Chosen, chosen, kept-in, Holds}
 use Rattle.choice.specs.declared.Kept.{Kept}
-use Rattle.choice.proofs.Keeping.{written-below, written-part, stored-words, numbered, steps-in-the-first-half, guard-in-the-second-half, closed-is, room-in-work}
+use Rattle.term.proofs.Round.{stored-words}
+use Rattle.choice.proofs.Keeping.{numbered, steps-in-the-first-half, guard-in-the-second-half}
 use Rattle.choice.proofs.Registers.{the-root-stores-as-the-pipeline}
-use Rattle.choice.proofs.SmallAtoms.{SmallTerm, SmallSteps, SmallAlternatives, SmallAlternative, small-alternatives}
+use Rattle.choice.proofs.SmallAtoms.{small-atom, small-rehop, SmallSteps, SmallAlternatives, SmallAlternative, small-alternatives}
 
--- "at most 65,536"
-pub room-is-small : (work : ℕ) → room-of work ≤ 65536
-unfolding room-of
-room-is-small work = pick-case (λ (r : ℕ). r ≤ 65536) (ltb 65536 (work / 16)) (λ e. omega arith) (λ e. ltb-false 65536 (work / 16) e)
-
--- The atom of a small term.
-small-atom : (x : SeqTerm) → SmallTerm x → termAtom x < 65536
-small-atom (BoolTerm a) p = p
-small-atom (Goto b k) p = p
-small-atom (Nonconsec b k) p = p
-small-atom (ConsecAtLeast b k) p = p
-small-atom Empty p = omega arith
-
--- .. of each stored step.
-small-atoms : (ts : List ℕ) (ss : List SeqStep) (k : ℕ) → Stored ts k ss → SmallSteps ss → (j : ℕ) → j < length ss → termAtom (nthStep ts (k + j) .term) < 65536
+-- The atom of each stored step.
+small-atoms : (ts : List ℕ) (ss : List SeqStep) (k : ℕ) → Stored ts k ss → SmallSteps ss → (j : ℕ) → j < length ss → term-atom (nth-step ts (k + j) .term) < 65536
 small-atoms ts [] k S p j h = absurd (omega arith)
 small-atoms ts (s ∷ ss) k S p zero h = rw (add-zero k, S .0) (small-atom (s .term) (p .0))
 small-atoms ts (s ∷ ss) k S p (suc j) h = let e : k + suc j ≡ suc k + j = omega arith in rw e (small-atoms ts ss (suc k) (S .1) (p .1) j (omega arith))
-
-small-rehop : (ss : List SeqStep) → SmallSteps ss → SmallSteps (rehop (Fixed 0) ss)
-small-rehop [] p = tt
-small-rehop (s ∷ ss) p = p
 
 small-nth : (alts : List SeqAlt) (i : ℕ) → i < length alts → SmallAlternatives alts → SmallAlternative (nth alts i)
 unfolding nth
@@ -64,17 +44,13 @@ small-nth [] i h p = absurd (omega arith)
 small-nth (y ∷ ys) zero h p = p .0
 small-nth (y ∷ ys) (suc i) h p = small-nth ys i (omega arith) (p .1)
 
-length-rehopped : (ss : List SeqStep) → length (rehop (Fixed 0) ss) ≡ length ss
-length-rehopped [] = refl
-length-rehopped (s ∷ ss) = refl
-
 -- The registers of an alternative are counted from its stored steps.
 pipeline-registers : (ts : List ℕ) (g : Guard) (ss : List SeqStep) → Stored ts 0 (rehop (Fixed 0) ss) → 1 ≤ length ss
-    → length (synth-seq-pipeline g ss 0 .stores) ≡ registersBefore ts (length ss)
+    → length (synth-seq-pipeline g ss 0 .stores) ≡ registers-before ts (length ss)
 pipeline-registers ts g [] S some = absurd (omega arith)
 pipeline-registers ts g (s ∷ ss) S some = the-registers-are-counted ts g (step (s .term) (Fixed 0)) ss 0 S
 
-counted-registers : (ts : List ℕ) (y : SeqAlt) → Stored ts 0 (rehop (Fixed 0) (y .steps)) → 1 ≤ length (y .steps) → registers-in y ≡ registersBefore ts (length (y .steps))
+counted-registers : (ts : List ℕ) (y : SeqAlt) → Stored ts 0 (rehop (Fixed 0) (y .steps)) → 1 ≤ length (y .steps) → registers-in y ≡ registers-before ts (length (y .steps))
 unfolding registers-in
 counted-registers ts y S some =
     ap length (the-root-stores-as-the-pipeline (y .guard) (y .steps) 0) ∙ pipeline-registers ts (y .guard) (y .steps) S some
@@ -84,10 +60,10 @@ module _ {t : List ℕ} {n i : ℕ} {work work₁ : List ℕ} {k : Kept} (C : Ch
   y = chosen t n i
 
   abbrev W : List ℕ
-  W = stepsWords (rehop (Fixed 0) (y .steps))
+  W = steps-words (rehop (Fixed 0) (y .steps))
 
   abbrev G : List ℕ
-  G = guardWords (y .guard)
+  G = guard-words (y .guard)
 
   -- The two halves.
   steps-fit-in : length W ≤ length work / 2
@@ -96,7 +72,7 @@ module _ {t : List ℕ} {n i : ℕ} {work work₁ : List ℕ} {k : Kept} (C : Ch
 
   guard-fits-in : length work / 2 + length G ≤ length work
   unfolding closed-guard
-  guard-fits-in = rw (← closed-is (y .guard)) (guard-in-the-second-half C)
+  guard-fits-in = guard-in-the-second-half C
 
   pub work-is-as-long : length work₁ ≡ length work
   unfolding kept-in
@@ -105,7 +81,7 @@ module _ {t : List ℕ} {n i : ℕ} {work work₁ : List ℕ} {k : Kept} (C : Ch
   -- An alternative has a step, and as many as a word can count.
   pub some-step : 1 ≤ k .steps
   unfolding alternatives-of
-  some-step = rw (H .many) (each-nth has-step (expand (treeAt t n)) i (each-expanded has-step (treeAt t n)))
+  some-step = rw (H .many) (each-nth has-step (expand (tree-at t n)) i (each-expanded has-step (tree-at t n)))
 
   pub few-steps : k .steps ≤ 65536
   unfolding numbered
@@ -137,11 +113,11 @@ module _ {t : List ℕ} {n i : ℕ} {work work₁ : List ℕ} {k : Kept} (C : Ch
       let long : k .end - k .guard ≡ length G = omega (arith, H .to) in
       rw (long, H .from, H .kept) (written-part (written work 0 W) (length work / 2) G (rw length-written guard-fits-in))
 
-  pub the-atoms-are-small : (j : ℕ) → j < k .steps → termAtom (nthStep work₁ j .term) < 65536
+  pub the-atoms-are-small : (j : ℕ) → j < k .steps → term-atom (nth-step work₁ j .term) < 65536
   unfolding alternatives-of
   the-atoms-are-small j h =
-      let small = small-nth (alternatives-of t n) i (C .index) (small-alternatives (treeAt t n) (a-formed-tree-is-ranged t (C .formed) n (C .inside))) in
-      rw (← zero-add j) (small-atoms work₁ (rehop (Fixed 0) (y .steps)) 0 the-steps-are-stored (small-rehop (y .steps) (small .steps)) j (omega (arith, length-rehopped (y .steps), H .many)))
+      let small = small-nth (alternatives-of t n) i (C .index) (small-alternatives (tree-at t n) (a-formed-tree-is-ranged t (C .formed) n (C .inside))) in
+      rw (← zero-add j) (small-atoms work₁ (rehop (Fixed 0) (y .steps)) 0 the-steps-are-stored (small-rehop (Fixed 0) (y .steps) (small .steps)) j (omega (arith, length-rehop (Fixed 0) (y .steps), H .many)))
 
-  pub the-registers-are : registers-in y ≡ registersBefore work₁ (k .steps)
+  pub the-registers-are : registers-in y ≡ registers-before work₁ (k .steps)
   the-registers-are = rw (H .many) (counted-registers work₁ y the-steps-are-stored (omega (arith, some-step, H .many)))

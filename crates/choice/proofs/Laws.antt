@@ -1,25 +1,22 @@
 -- The passes over the alternatives as the code meets them: what is true before the i-th is that the rest of them gives what
 -- all give. Each law has its premises in the order in which the code learns them.
-use mathlib.Core.Bool.{Bool, true, false, not}
+use mathlib.Core.Bool.{true, false, not}
 use mathlib.Core.Path.{_≡_, refl, sym, ap, _∙_}
 use mathlib.Core.List.{List, [], _∷_, _++_, append-assoc}
-use Prim.Native.Nat.{ℕ, zero, suc, _+_, _*_, _≤_, _<_}
-use native.Mathlib.Nat.{add-zero}
-use native.Mathlib.Numerals.{add-one}
+use Prim.Native.Nat.{ℕ, _+_, _*_, _≤_, _<_}
 use native.Mathlib.Omega.{arith}
 use lib.ListN.{length, drop, length-append, drop-of-length-le}
 use lib.Dec.{eqb}
-use lib.Seq.{drop-cons}
 use borrow.Author.Tests.{not-true, not-false, eq-eqb, ne-eqb}
-use Rattle.words.specs.Choice.{pick, pick-true, pick-false, pick-case}
-use Rattle.words.specs.Written.{written, Wrote}
+use Rattle.words.specs.Choice.{pick-true, pick-false, pick-case}
+use Rattle.words.specs.Written.{Wrote}
 use Rattle.words.proofs.Laws.{Going, begin, go, done, last, length-written}
-use Rattle.meaning.specs.Tree.{treeAt}
-use Rattle.meaning.specs.Alternative.{SeqAlt, single}
+use Rattle.meaning.specs.Tree.{tree-at}
+use Rattle.meaning.specs.Alternative.{SeqAlt}
 use Rattle.meaning.specs.Refusals.{steps-fit}
-use Rattle.meaning.specs.declared.SeqTerm.the-variants.{Empty}
-use Rattle.expand.specs.ByNumber.{alternatives-of, nth}
-use Rattle.expand.proofs.Every.{bounded}
+use Rattle.expand.specs.ByNumber.{alternatives-of}
+use Rattle.meaning.proofs.Walks.{a-walkable-tree-is-bounded}
+use Rattle.expand.proofs.Index.{rest-of}
 use Rattle.meaning.specs.Listing.{word}
 use Rattle.choice.specs.Alternatives.{registers-in, stores-in, text-in, all-registers, all-stores, closing, all-texts, choice-words, survey-from, survey-of}
 use Rattle.choice.specs.Passes.{Root, Chosen, chosen, kept-in, left-behind, left-by-survey, look-at, size-at, Marked}
@@ -28,11 +25,7 @@ use Rattle.choice.specs.declared.Size.{Size}
 use Rattle.choice.specs.declared.Mark.{Mark}
 use Rattle.choice.specs.declared.Survey.the-variants.{Misplaced, Registers}
 
--- The alternatives that are left, the next one in front.
-rest-of : (alts : List SeqAlt) (i : ℕ) → i < length alts → drop i alts ≡ nth alts i ∷ drop (i + 1) alts
-unfolding nth
-rest-of alts i h = rw (add-one i) (drop-cons alts i (single Empty) h)
-
+-- At the end none is left.
 none-left : (alts : List SeqAlt) {i : ℕ} → length alts ≤ i → drop i alts ≡ []
 none-left alts h = drop-of-length-le alts h
 
@@ -40,7 +33,7 @@ module _ {t : List ℕ} {n count work : ℕ} (R : Root t n count work) where
   -- Refusal 10 came first.
   pub few-alternatives : count ≤ 256
   unfolding alternatives-of
-  few-alternatives = omega (arith, R .counted, bounded (treeAt t n) (R .walkable) .few)
+  few-alternatives = omega (arith, R .counted, a-walkable-tree-is-bounded _ (tree-at t n) (R .walkable) .few)
 
   pub chosen-below : {i now : ℕ} → now ≡ work → i < count → Chosen t n i now
   chosen-below same h = record { formed = R .formed; inside = R .inside; walkable = rw same (R .walkable); index = omega (arith, R .counted) }

@@ -1,7 +1,7 @@
 -- How many registers an alternative has does not depend on the number of the first: the registers are counted from its steps
 -- alone. So the registers of all alternatives are a sum.
 use mathlib.Core.Path.{_≡_, refl, sym, ap, _∙_}
-use mathlib.Core.List.{List, [], _∷_, _++_}
+use mathlib.Core.List.{List, [], _∷_}
 use Prim.Native.Nat.{ℕ, _+_}
 use native.Mathlib.Omega.{arith}
 use lib.ListN.{length, length-append}
@@ -11,17 +11,17 @@ use Rattle.meaning.specs.Root.{lone-or-pipeline, choice}
 use Rattle.meaning.specs.declared.SeqTerm.{SeqTerm}
 use Rattle.meaning.specs.declared.SeqTerm.the-variants.{Bool as BoolTerm, Goto, Nonconsec, ConsecAtLeast, Empty}
 use Rattle.meaning.specs.declared.SeqStep.{SeqStep}
-use Rattle.expand.specs.ByNumber.{stepsWords}
+use Rattle.term.specs.Steps.{steps-words}
 use Rattle.current.proofs.Bridge.{the-registers-are-counted}
 use Rattle.choice.specs.Alternatives.{registers-in, all-registers}
-use Rattle.choice.proofs.Keeping.{its-own-steps}
+use Rattle.term.proofs.Round.{its-own-steps}
 
 pub as-many-in-a-pipeline : (g : Guard) (ss : List SeqStep) (n n′ : ℕ)
     → length (synth-seq-pipeline g ss n .stores) ≡ length (synth-seq-pipeline g ss n′ .stores)
 as-many-in-a-pipeline g [] n n′ = refl
 as-many-in-a-pipeline g (s ∷ ss) n n′ =
     let stored = its-own-steps (s ∷ ss) in
-    let ts = stepsWords (s ∷ ss) in
+    let ts = steps-words (s ∷ ss) in
     the-registers-are-counted ts g s ss n stored ∙ sym (the-registers-are-counted ts g s ss n′ stored)
 
 -- At the root, a lone unguarded Bool has other words; the assignments are those of the pipeline.

@@ -2,7 +2,9 @@
 -- on the tree, through the lists that an expansion is built by.
 use mathlib.Core.List.{List, [], _∷_, _++_}
 use Prim.Native.Nat.{ℕ, zero, suc, _-_, _<_}
-use Rattle.meaning.specs.Tree.{finite, unbounded, Seq, atom, delay, consec, goto, nonconsec, throughout, within, Operand, boolean, other, operand, below}
+use native.Mathlib.Omega.{arith}
+use Rattle.term.specs.Steps.{term-atom}
+use Rattle.meaning.specs.Tree.{finite, unbounded, Seq, atom, delay, consec, goto, nonconsec, throughout, within, operand, below}
 use Rattle.meaning.specs.Expression.{Expr, a·, r·, zero·, one·, any, not·, and·, or·}
 use Rattle.meaning.specs.Alternative.{Guard, unguarded, guard, and-opt, SeqAlt, single, rehop, joined, join-rights, join-lefts, join-hops, hops, copies, copies-from, with-empty, consec-finite, over, consec-unbounded, guard-each, expand}
 use Rattle.meaning.specs.Lowerable.{Ranged}
@@ -31,6 +33,14 @@ SmallTerm (Nonconsec b k) = b < 65536
 SmallTerm (ConsecAtLeast b k) = b < 65536
 SmallTerm Empty = Unit {0}
 
+-- Of such a term, the atom that is kept in a word.
+pub small-atom : (x : SeqTerm) → SmallTerm x → term-atom x < 65536
+small-atom (BoolTerm a) p = p
+small-atom (Goto b k) p = p
+small-atom (Nonconsec b k) p = p
+small-atom (ConsecAtLeast b k) p = p
+small-atom Empty p = omega arith
+
 abbrev pub SmallSteps : List SeqStep → Type 0
 SmallSteps [] = Unit {0}
 SmallSteps (s ∷ ss) = SmallTerm (s .term) × SmallSteps ss
@@ -51,7 +61,7 @@ small-steps-append : (xs ys : List SeqStep) → SmallSteps xs → SmallSteps ys 
 small-steps-append [] ys p q = q
 small-steps-append (x ∷ xs) ys p q = (p .0, small-steps-append xs ys (p .1) q)
 
-small-rehop : (h : SeqHop) (ss : List SeqStep) → SmallSteps ss → SmallSteps (rehop h ss)
+pub small-rehop : (h : SeqHop) (ss : List SeqStep) → SmallSteps ss → SmallSteps (rehop h ss)
 small-rehop h [] p = tt
 small-rehop h (s ∷ ss) p = p
 

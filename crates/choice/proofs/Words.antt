@@ -2,25 +2,18 @@
 -- functions on expressions; nothing is assumed but that there is an alternative.
 use mathlib.Core.Path.{_≡_, refl, sym, ap, _∙_}
 use mathlib.Core.List.{List, [], _∷_, _++_, append-nil, append-assoc}
-use Prim.Native.Nat.{ℕ, zero, suc, _+_, _≤_}
-use native.Mathlib.Nat.{add-zero, add-suc, suc-add}
-use native.Mathlib.Numerals.{add-one}
+use Prim.Native.Nat.{ℕ, suc, _+_, _≤_}
 use native.Mathlib.Omega.{arith}
-use lib.Dec.{eqb}
 use lib.ListN.{length}
 use borrow.Author.Tests.{ne-eqb}
-use Rattle.words.specs.Choice.{pick, pick-false}
-use Rattle.meaning.specs.Expression.{Expr, any, or·, Store}
+use Rattle.words.specs.Choice.{pick}
+use Rattle.meaning.specs.Expression.{Expr, any, or·}
 use Rattle.meaning.specs.Alternative.{SeqAlt}
-use Rattle.meaning.specs.Root.{lone-or-pipeline, match-sigs, or-reduced, any-of, choice}
-use Rattle.meaning.specs.Listing.{word, store-operation, expression-words, store-words, listing}
-use Rattle.fsm.proofs.Bridge.{stores-append}
+use Rattle.meaning.specs.Root.{lone-or-pipeline, match-sigs, or-reduced, choice}
+use Rattle.meaning.specs.Listing.{word, expression-words, store-words, listing}
+use Rattle.meaning.proofs.Emitted.{store-words-append}
 use Rattle.choice.specs.Alternatives.{registers-in, stores-in, text-in, all-stores, closing, all-texts, choice-words}
 use Rattle.choice.proofs.Registers.{registers-from-any-number}
-
--- Assignments one after the other: the second list's registers are numbered behind the first's.
-pub store-words-append : (n : ℕ) (xs ys : List Store) → store-words n (xs ++ ys) ≡ store-words n xs ++ store-words (n + length xs) ys
-store-words-append n xs ys = stores-append xs ys n
 
 -- The assignments of a choice.
 pub the-stores-of-a-choice : (alts : List SeqAlt) (n : ℕ) → store-words n (choice alts n .stores) ≡ all-stores alts n

@@ -2,7 +2,6 @@
 -- write it with one alternative at hand.
 -- Example: `a[*1:2]` has two alternatives. Their stores are `a0 any seq0`, of the second; their texts, each closed by what
 -- joins it to those before, are `a0` `any` and `r0 a0 any and` `any or`.
-use mathlib.Core.Bool.{Bool, true, false}
 use mathlib.Core.List.{List, [], _∷_, _++_}
 use Prim.Native.Nat.{ℕ, _+_}
 use lib.Dec.{eqb}

@@ -1,25 +1,26 @@
 -- What a pass over the alternatives asks for, finds at one of them, and leaves behind in work.
 -- Example: after a pass over `a[*1:2]` the first ten words of work are the steps of its second alternative, a and a after 1.
-use mathlib.Core.Bool.{Bool, true, false}
 use mathlib.Core.Path.{_≡_}
-use mathlib.Core.List.{List, [], _∷_, _++_}
+use mathlib.Core.List.{List, [], _∷_}
 use Prim.Native.Nat.{ℕ, _+_, _-_, _≤_, _<_, _/_}
 use lib.ListN.{length, take, drop}
 use Rattle.words.specs.Choice.{pick}
 use Rattle.words.specs.Written.{written, Wrote}
-use Rattle.meaning.specs.Tree.{treeAt, nodes}
+use Rattle.meaning.specs.Tree.{tree-at, nodes}
 use Rattle.meaning.specs.Alternative.{SeqAlt, rehop}
 use Rattle.meaning.specs.Lowerable.{FormedTable, Walkable}
 use Rattle.meaning.specs.Refusals.{room-of, steps-fit}
 use Rattle.meaning.specs.declared.SeqHop.the-variants.{Fixed}
-use Rattle.expand.specs.ByNumber.{alternatives-of, nth, stepsWords}
-use Rattle.current.specs.Text.{guardWords, registersBefore}
-use Rattle.pipeline.specs.Stores.{ReadyAll, alternativeStores}
+use Rattle.term.specs.Steps.{steps-words}
+use Rattle.expand.specs.ByNumber.{alternatives-of, nth}
+use Rattle.term.specs.Guards.{guard-words}
+use Rattle.current.specs.Text.{registers-before}
+use Rattle.pipeline.specs.Stores.{ReadyAll, alternative-store-words}
 use Rattle.choice.specs.declared.Kept.{Kept}
 use Rattle.choice.specs.declared.Look.{Look}
 use Rattle.choice.specs.declared.Mark.{Mark}
 use Rattle.choice.specs.declared.Size.{Size}
-use Rattle.choice.specs.RootText.{rootText}
+use Rattle.choice.specs.RootText.{root-text}
 use Rattle.choice.specs.Alternatives.{registers-in, stores-in, text-in}
 
 -- A root that is no within, which the table's checks and the walk let pass with so many words of work; count is how many
@@ -27,14 +28,14 @@ use Rattle.choice.specs.Alternatives.{registers-in, stores-in, text-in}
 pub record Root (t : List ℕ) (n count work : ℕ) : Type 0 where
   pub formed : FormedTable t
   pub inside : n < nodes t
-  pub walkable : Walkable (room-of work) (treeAt t n)
+  pub walkable : Walkable (room-of work) (tree-at t n)
   pub counted : count ≡ length (alternatives-of t n)
 
 -- .. and the number of one of its alternatives.
 pub record Chosen (t : List ℕ) (n i work : ℕ) : Type 0 where
   pub formed : FormedTable t
   pub inside : n < nodes t
-  pub walkable : Walkable (room-of work) (treeAt t n)
+  pub walkable : Walkable (room-of work) (tree-at t n)
   pub index : i < length (alternatives-of t n)
 
 -- The i-th alternative of node n.
@@ -44,27 +45,27 @@ chosen t n i = nth (alternatives-of t n) i
 -- An alternative kept in work: its steps from the front on, and from the middle on its guard, closed by its `and`. The hop of
 -- the first step is never taken.
 unfoldable pub kept-in : SeqAlt → List ℕ → List ℕ
-kept-in y work = written (written work 0 (stepsWords (rehop (Fixed 0) (y .steps)))) (length work / 2) (guardWords (y .guard))
+kept-in y work = written (written work 0 (steps-words (rehop (Fixed 0) (y .steps)))) (length work / 2) (guard-words (y .guard))
 
 -- Where it stands there.
 pub record Holds (y : SeqAlt) (work work₁ : List ℕ) (k : Kept) : Type 0 where
   pub kept : work₁ ≡ kept-in y work
   pub many : k .steps ≡ length (y .steps)
   pub from : k .guard ≡ length work / 2
-  pub to : k .end ≡ k .guard + length (guardWords (y .guard))
+  pub to : k .end ≡ k .guard + length (guard-words (y .guard))
 
 -- The words of its guard, read from there, and of its match from register x on.
 unfoldable pub guard-of : List ℕ → Kept → List ℕ
 guard-of work k = take (k .end - k .guard) (drop (k .guard) work)
 
 unfoldable pub kept-text : List ℕ → Kept → ℕ → List ℕ
-kept-text work k x = rootText work (guard-of work k) (k .steps - 1) (x + registersBefore work (k .steps - 1))
+kept-text work k x = root-text work (guard-of work k) (k .steps - 1) (x + registers-before work (k .steps - 1))
 
 -- How many words that is with its assignments, and the register after its last.
 unfoldable pub kept-size : List ℕ → Kept → ℕ → Size
 kept-size work k x = record {
-  words = length (alternativeStores work (guard-of work k) (k .steps) x) + length (kept-text work k x);
-  register = x + registersBefore work (k .steps);
+  words = length (alternative-store-words work (guard-of work k) (k .steps) x) + length (kept-text work k x);
+  register = x + registers-before work (k .steps);
 }
 
 -- It can be read, and its registers from x on are small enough for words.

@@ -7,31 +7,32 @@ use lib.ListN.{length}
 use Rattle.words.specs.Choice.{pick}
 use Rattle.meaning.specs.declared.SeqTerm.{SeqTerm}
 use Rattle.meaning.specs.declared.SeqTerm.the-variants.{Bool as BoolTerm, Goto, Nonconsec, ConsecAtLeast, Empty}
-use Rattle.current.specs.Text.{atomWord, nthStep, textAt}
+use Rattle.term.specs.Steps.{nth-step}
+use Rattle.current.specs.Text.{atom-word, text-at}
 use Rattle.choice.specs.declared.Lone.{Lone}
 use Rattle.choice.specs.declared.Lone.the-variants.{Atom, Other}
 
 -- A term that is a Boolean, and which.
-unfoldable pub boolOf : SeqTerm → Lone
-boolOf (BoolTerm a) = Atom a
-boolOf (Goto b k) = Other
-boolOf (Nonconsec b k) = Other
-boolOf (ConsecAtLeast b k) = Other
-boolOf Empty = Other
+unfoldable pub bool-of : SeqTerm → Lone
+bool-of (BoolTerm a) = Atom a
+bool-of (Goto b k) = Other
+bool-of (Nonconsec b k) = Other
+bool-of (ConsecAtLeast b k) = Other
+bool-of Empty = Other
 
 -- "a lone unguarded Bool": one step, no words of a guard, a Bool term. The steps are numbered up to the last.
-unfoldable pub loneAt : List ℕ → List ℕ → ℕ → Lone
-loneAt steps G last = pick (eqb last 0) (pick (eqb (length G) 0) (boolOf (nthStep steps 0 .term)) Other) Other
+unfoldable pub lone-at : List ℕ → List ℕ → ℕ → Lone
+lone-at steps G last = pick (eqb last 0) (pick (eqb (length G) 0) (bool-of (nth-step steps 0 .term)) Other) Other
 
 -- ".. is the bare atom"; any other alternative is what its pipeline returns.
-abbrev pub bareOr : Lone → List ℕ → List ℕ
-bareOr (Atom a) text = atomWord a ∷ []
-bareOr Other text = text
+abbrev pub bare-or : Lone → List ℕ → List ℕ
+bare-or (Atom a) text = atom-word a ∷ []
+bare-or Other text = text
 
-unfoldable pub bareSizeOr : Lone → ℕ → ℕ
-bareSizeOr (Atom a) text = 1
-bareSizeOr Other text = text
+unfoldable pub bare-size-or : Lone → ℕ → ℕ
+bare-size-or (Atom a) text = 1
+bare-size-or Other text = text
 
 -- r is the first register of the last step.
-unfoldable pub rootText : List ℕ → List ℕ → ℕ → ℕ → List ℕ
-rootText steps G last r = bareOr (loneAt steps G last) (textAt steps G last r)
+unfoldable pub root-text : List ℕ → List ℕ → ℕ → ℕ → List ℕ
+root-text steps G last r = bare-or (lone-at steps G last) (text-at steps G last r)

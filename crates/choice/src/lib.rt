@@ -6,16 +6,16 @@
 // `a0 any seq0`, then `a0 any`, then `r0 a0 any and any or`, and end the match.
 ghost use mathlib.Core.Path.{_≡_};
 ghost use mathlib.Core.List.{[], _∷_, _++_};
-ghost use Prim.Native.Nat.{_+_, _≤_, _<_};
+ghost use Prim.Native.Nat.{_+_, _≤_};
 ghost use lib.ListN.{length};
 ghost use Rattle.words.specs.Written.{Wrote};
 ghost use Rattle.meaning.specs.Listing.{word};
 ghost use Rattle.expand.specs.ByNumber.{alternatives-of};
 ghost use Rattle.choice.specs.Alternatives.{registers-in, stores-in, text-in, all-registers, all-stores, closing, all-texts, choice-words, survey-of};
-ghost use Rattle.current.specs.Text.{registersBefore};
+ghost use Rattle.current.specs.Text.{registers-before};
 ghost use Rattle.current.specs.Walk.{Ready};
-ghost use Rattle.pipeline.specs.Stores.{alternativeStores};
-ghost use Rattle.choice.specs.RootText.{boolOf, loneAt, bareSizeOr, rootText};
+ghost use Rattle.pipeline.specs.Stores.{alternative-store-words};
+ghost use Rattle.choice.specs.RootText.{bool-of, lone-at, bare-size-or, root-text};
 ghost use Rattle.choice.specs.Passes.{Root, Chosen, chosen, kept-in, Holds, guard-of, kept-text, kept-size, Held, left-behind, left-by-survey, look-at, size-at, Marked};
 
 // What the first pass finds: the lowest alternative that 12 refuses, or the registers of all of them.
@@ -50,7 +50,7 @@ pub enum Lone {
 
 // The atom of a Bool term.
 fn bool_of(x: meaning::SeqTerm) -> Lone
-    ensures { λ r. ⌜ r ≡ boolOf x ⌝ }
+    ensures { λ r. ⌜ r ≡ bool-of x ⌝ }
 {
     match x {
         meaning::SeqTerm::Bool(a) => Lone::Atom(a),
@@ -64,7 +64,7 @@ fn bool_of(x: meaning::SeqTerm) -> Lone
 // The atom of a lone unguarded Bool.
 fn lone_at(steps: &[u32], guard: &[u32], last: usize) -> Lone
     requires { ⌜ 5 ≤ length (now steps) ⌝ }
-    ensures { λ r. ⌜ r ≡ loneAt (now (steps .entry)) (now (guard .entry)) last ⌝ }
+    ensures { λ r. ⌜ r ≡ lone-at (now (steps .entry)) (now (guard .entry)) last ⌝ }
 {
     if last == 0 {
         if guard.len() == 0 {
@@ -79,8 +79,8 @@ fn lone_at(steps: &[u32], guard: &[u32], last: usize) -> Lone
 
 // The match of an alternative at the root: the bare atom, or what its pipeline returns.
 fn root_text(steps: &[u32], guard: &[u32], last: usize, r: u32, out: &mut [u32], at: usize) -> usize
-    requires { ⌜ Ready (now steps) last r × (at + length (rootText (now steps) (now guard) last r) ≤ length (now out)) ⌝ }
-    ensures { λ p. ⌜ Wrote (now (out .entry)) (now (out .exit)) at p (rootText (now (steps .entry)) (now (guard .entry)) last r) ⌝ }
+    requires { ⌜ Ready (now steps) last r × (at + length (root-text (now steps) (now guard) last r) ≤ length (now out)) ⌝ }
+    ensures { λ p. ⌜ Wrote (now (out .entry)) (now (out .exit)) at p (root-text (now (steps .entry)) (now (guard .entry)) last r) ⌝ }
 {
     let lone = lone_at(steps, guard, last);
     let Lone::Atom(a) = lone else {
@@ -92,7 +92,7 @@ fn root_text(steps: &[u32], guard: &[u32], last: usize, r: u32, out: &mut [u32],
 // How many words that is; what the pipeline returns would have so many.
 fn root_size(steps: &[u32], guard: &[u32], last: usize, text: u64) -> u64
     requires { ⌜ 5 ≤ length (now steps) ⌝ }
-    ensures { λ r. ⌜ r ≡ bareSizeOr (loneAt (now (steps .entry)) (now (guard .entry)) last) text ⌝ }
+    ensures { λ r. ⌜ r ≡ bare-size-or (lone-at (now (steps .entry)) (now (guard .entry)) last) text ⌝ }
 {
     let lone = lone_at(steps, guard, last);
     let Lone::Atom(_) = lone else {
@@ -158,8 +158,8 @@ fn kept_size(work: &[u32], k: Kept, x: u32) -> Size
 
 // Puts the assignments of the alternative that is kept in work, from register x on.
 fn kept_stores(work: &[u32], k: Kept, x: u32, out: &mut [u32], at: usize) -> Mark
-    requires { ⌜ Held (now work) k x × (at + length (alternativeStores (now work) (guard-of (now work) k) (k .steps) x) ≤ length (now out)) ⌝ }
-    ensures { λ m. ⌜ Marked (now (out .entry)) (now (out .exit)) at m (alternativeStores (now (work .entry)) (guard-of (now (work .entry)) k) (k .steps) x) (x + registersBefore (now (work .entry)) (k .steps)) ⌝ }
+    requires { ⌜ Held (now work) k x × (at + length (alternative-store-words (now work) (guard-of (now work) k) (k .steps) x) ≤ length (now out)) ⌝ }
+    ensures { λ m. ⌜ Marked (now (out .entry)) (now (out .exit)) at m (alternative-store-words (now (work .entry)) (guard-of (now (work .entry)) k) (k .steps) x) (x + registers-before (now (work .entry)) (k .steps)) ⌝ }
 {
     let from = k.guard;
     let to = k.end;
@@ -174,7 +174,7 @@ fn kept_stores(work: &[u32], k: Kept, x: u32, out: &mut [u32], at: usize) -> Mar
 // Puts its match.
 fn kept_text(work: &[u32], k: Kept, x: u32, out: &mut [u32], at: usize) -> Mark
     requires { ⌜ Held (now work) k x × (at + length (kept-text (now work) k x) ≤ length (now out)) ⌝ }
-    ensures { λ m. ⌜ Marked (now (out .entry)) (now (out .exit)) at m (kept-text (now (work .entry)) k x) (x + registersBefore (now (work .entry)) (k .steps)) ⌝ }
+    ensures { λ m. ⌜ Marked (now (out .entry)) (now (out .exit)) at m (kept-text (now (work .entry)) k x) (x + registers-before (now (work .entry)) (k .steps)) ⌝ }
 {
     let from = k.guard;
     let to = k.end;

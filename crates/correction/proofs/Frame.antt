@@ -12,20 +12,20 @@ use lib.Seq.{getD-set-same, getD-set-other}
 use borrow.Author.Tests.{lt-ltb, le-ltb, ne-eqb, eqb-false}
 use Rattle.words.specs.Choice.{pick, pick-true, pick-false, pick-cong, pick-case}
 use Rattle.correction.specs.Map.{names}
-use Rattle.correction.specs.Rows.{rowOf, columnOf, placeOf, pixelAt, replacementBy, replacementIn, leavingOf, rowsAfter, Stepped}
-use Rattle.correction.specs.Picture.{corrected, toLeave, Ran, begun, ticked}
+use Rattle.correction.specs.Rows.{row-of, column-of, place-of, pixel-at, replacement-by, replacement-in, leaving-of, rows-after, Stepped}
+use Rattle.correction.specs.Picture.{corrected, to-leave, Ran, begun, ticked}
 use Rattle.correction.specs.declared.Leaving.the-variants.{Kept, Replaced}
 use Rattle.correction.specs.declared.Output.{Output}
 
 -- Within two rows no place is taken twice.
-apart : (s t : ℕ) → s < t → t < s + 1504 → placeOf s ≡ placeOf t → ⊥
+apart : (s t : ℕ) → s < t → t < s + 1504 → place-of s ≡ place-of t → ⊥
 apart s t h k e = omega arith
 
 -- The rows at a tick: the two pixels that wait are as they came in, the others of the last two rows as they left.
 record Holding (map : List ℕ) (picture : ℕ → ℕ → ℕ) (rows : List ℕ) (tick : ℕ) : Type 0 where
   long : length rows ≡ 1504
-  waiting : (s : ℕ) → s < tick → tick ≤ s + 2 → pixelAt rows s ≡ picture (rowOf s) (columnOf s)
-  gone : (s : ℕ) → s + 2 < tick → tick ≤ s + 1504 → pixelAt rows s ≡ corrected map picture (rowOf s) (columnOf s)
+  waiting : (s : ℕ) → s < tick → tick ≤ s + 2 → pixel-at rows s ≡ picture (row-of s) (column-of s)
+  gone : (s : ℕ) → s + 2 < tick → tick ≤ s + 1504 → pixel-at rows s ≡ corrected map picture (row-of s) (column-of s)
 
 not-zero : (n : ℕ) → eqb (suc n) 0 ≡ false
 not-zero n = ne-eqb (suc n) 0 (λ e. omega arith)
@@ -49,27 +49,27 @@ one-equation map picture (suc row) (suc column) = rw (not-zero column, not-zero 
 
 module _ {map : List ℕ} {picture : ℕ → ℕ → ℕ} {rows : List ℕ} {tick : ℕ} (H : Holding map picture rows tick) where
   entered : List ℕ
-  entered = set rows (placeOf tick) (picture (rowOf tick) (columnOf tick))
+  entered = set rows (place-of tick) (picture (row-of tick) (column-of tick))
 
   -- The pixel that comes in leaves every other one of the last two rows alone.
-  still : (s : ℕ) → s < tick → tick < s + 1504 → pixelAt entered s ≡ pixelAt rows s
+  still : (s : ℕ) → s < tick → tick < s + 1504 → pixel-at entered s ≡ pixel-at rows s
   unfolding entered
-  still s h k = getD-set-other rows (placeOf tick) (placeOf s) _ 0 (apart s tick h k)
+  still s h k = getD-set-other rows (place-of tick) (place-of s) _ 0 (apart s tick h k)
 
   -- What replaces a named pixel is the corrected one.
-  replaced : (s : ℕ) → tick ≡ s + 2 → names map (rowOf s) (columnOf s) ≡ true
-      → replacementIn entered s ≡ corrected map picture (rowOf s) (columnOf s)
-  unfolding replacementBy
+  replaced : (s : ℕ) → tick ≡ s + 2 → names map (row-of s) (column-of s) ≡ true
+      → replacement-in entered s ≡ corrected map picture (row-of s) (column-of s)
+  unfolding replacement-by
   replaced s e n =
-      let row = rowOf s in
-      let column = columnOf s in
-      let left : (column ≡ 0 → ⊥) → pixelAt entered (s - 1) ≡ corrected map picture row (column - 1) = λ c.
-      let r : rowOf (s - 1) ≡ row = omega arith in
-      let d : columnOf (s - 1) ≡ column - 1 = omega arith in
+      let row = row-of s in
+      let column = column-of s in
+      let left : (column ≡ 0 → ⊥) → pixel-at entered (s - 1) ≡ corrected map picture row (column - 1) = λ c.
+      let r : row-of (s - 1) ≡ row = omega arith in
+      let d : column-of (s - 1) ≡ column - 1 = omega arith in
       still (s - 1) (omega arith) (omega arith) ∙ H .gone (s - 1) (omega arith) (omega arith) ∙ ap₂ (corrected map picture) r d in
-      let above : (row ≡ 0 → ⊥) → pixelAt entered (s - 752) ≡ corrected map picture (row - 1) column = λ c.
-      let r : rowOf (s - 752) ≡ row - 1 = omega arith in
-      let d : columnOf (s - 752) ≡ column = omega arith in
+      let above : (row ≡ 0 → ⊥) → pixel-at entered (s - 752) ≡ corrected map picture (row - 1) column = λ c.
+      let r : row-of (s - 752) ≡ row - 1 = omega arith in
+      let d : column-of (s - 752) ≡ column = omega arith in
       still (s - 752) (omega arith) (omega arith) ∙ H .gone (s - 752) (omega arith) (omega arith) ∙ ap₂ (corrected map picture) r d in
       pick-cong (eqb column 0) (λ _. pick-cong (eqb row 0) (λ _. refl) (λ f. above (eqb-false row 0 f)))
       (λ d. pick-cong (eqb row 0) (λ _. left (eqb-false column 0 d))
@@ -77,40 +77,40 @@ module _ {map : List ℕ} {picture : ℕ → ℕ → ℕ} {rows : List ℕ} {tic
       ∙ sym (one-equation map picture row column ∙ pick-true _ _ n)
 
   -- The pixel that leaves is the one of two ticks before, as it is to leave.
-  leaving : (s : ℕ) → tick ≡ s + 2 → leavingOf map entered s ≡ toLeave map picture (rowOf s) (columnOf s)
-  unfolding leavingOf toLeave
-  leaving s e = pick-cong (names map (rowOf s) (columnOf s)) (λ n. ap Replaced (replaced s e n))
+  leaving : (s : ℕ) → tick ≡ s + 2 → leaving-of map entered s ≡ to-leave map picture (row-of s) (column-of s)
+  unfolding leaving-of to-leave
+  leaving s e = pick-cong (names map (row-of s) (column-of s)) (λ n. ap Replaced (replaced s e n))
       (λ _. ap Kept (still s (omega arith) (omega arith) ∙ H .waiting s (omega arith) (omega arith)))
 
   -- The pixel that comes in is there.
-  came-in : pixelAt entered tick ≡ picture (rowOf tick) (columnOf tick)
+  came-in : pixel-at entered tick ≡ picture (row-of tick) (column-of tick)
   unfolding entered
-  came-in = getD-set-same rows (placeOf tick) _ 0 (omega (arith, H .long))
+  came-in = getD-set-same rows (place-of tick) _ 0 (omega (arith, H .long))
 
   -- The pixel that leaves is kept corrected ..
-  kept-corrected : (s : ℕ) → tick ≡ s + 2 → pixelAt (rowsAfter map entered s) s ≡ corrected map picture (rowOf s) (columnOf s)
-  unfolding rowsAfter entered
+  kept-corrected : (s : ℕ) → tick ≡ s + 2 → pixel-at (rows-after map entered s) s ≡ corrected map picture (row-of s) (column-of s)
+  unfolding rows-after entered
   kept-corrected s e =
-      pick-case (λ (l : List ℕ). pixelAt l s ≡ corrected map picture (rowOf s) (columnOf s)) (names map (rowOf s) (columnOf s))
-      (λ n. getD-set-same entered (placeOf s) _ 0 (simp length-set (omega (arith, H .long))) ∙ replaced s e n)
+      pick-case (λ (l : List ℕ). pixel-at l s ≡ corrected map picture (row-of s) (column-of s)) (names map (row-of s) (column-of s))
+      (λ n. getD-set-same entered (place-of s) _ 0 (simp length-set (omega (arith, H .long))) ∙ replaced s e n)
       (λ n. still s (omega arith) (omega arith) ∙ H .waiting s (omega arith) (omega arith)
-      ∙ sym (one-equation map picture (rowOf s) (columnOf s) ∙ pick-false _ _ n))
+      ∙ sym (one-equation map picture (row-of s) (column-of s) ∙ pick-false _ _ n))
 
   -- .. and no other changes.
-  others-kept : (s u : ℕ) → (placeOf s ≡ placeOf u → ⊥) → pixelAt (rowsAfter map entered u) s ≡ pixelAt entered s
-  unfolding rowsAfter
+  others-kept : (s u : ℕ) → (place-of s ≡ place-of u → ⊥) → pixel-at (rows-after map entered u) s ≡ pixel-at entered s
+  unfolding rows-after
   others-kept s u n =
-      pick-case (λ (l : List ℕ). pixelAt l s ≡ pixelAt entered s) (names map (rowOf u) (columnOf u))
-      (λ _. getD-set-other entered (placeOf u) (placeOf s) _ 0 n) (λ _. refl)
+      pick-case (λ (l : List ℕ). pixel-at l s ≡ pixel-at entered s) (names map (row-of u) (column-of u))
+      (λ _. getD-set-other entered (place-of u) (place-of s) _ 0 n) (λ _. refl)
 
-  length-after : (s : ℕ) → length (rowsAfter map entered s) ≡ 1504
-  unfolding rowsAfter entered
+  length-after : (s : ℕ) → length (rows-after map entered s) ≡ 1504
+  unfolding rows-after entered
   length-after s =
-      pick-case (λ (l : List ℕ). length l ≡ 1504) (names map (rowOf s) (columnOf s))
+      pick-case (λ (l : List ℕ). length l ≡ 1504) (names map (row-of s) (column-of s))
       (λ _. simp length-set (H .long)) (λ _. simp length-set (H .long))
 
   -- The pixels that wait at the next tick, before any leaves.
-  waits : (s : ℕ) → s < tick + 1 → tick + 1 ≤ s + 2 → pixelAt entered s ≡ picture (rowOf s) (columnOf s)
+  waits : (s : ℕ) → s < tick + 1 → tick + 1 ≤ s + 2 → pixel-at entered s ≡ picture (row-of s) (column-of s)
   waits s i j = elim (decLe tick s) [
     | yes a ↦ (let e : s ≡ tick = omega arith in rw e came-in)
     | no a ↦ still s (omega arith) (omega arith) ∙ H .waiting s (omega arith) (omega arith)
@@ -122,7 +122,7 @@ module _ {map : List ℕ} {picture : ℕ → ℕ → ℕ} {rows : List ℕ} {tic
   nothing-left h = record { long = simp length-set (H .long); waiting = waits; gone = λ s i j. absurd (omega arith) }
 
   -- .. or the pixel of two ticks before did.
-  one-left : (u : ℕ) → tick ≡ u + 2 → Holding map picture (rowsAfter map entered u) (tick + 1)
+  one-left : (u : ℕ) → tick ≡ u + 2 → Holding map picture (rows-after map entered u) (tick + 1)
   one-left u e = record {
     long = length-after u;
     waiting = λ s i j. others-kept s u (λ q. apart u s (omega arith) (omega arith) (sym q)) ∙ waits s i j;
@@ -135,7 +135,7 @@ module _ {map : List ℕ} {picture : ℕ → ℕ → ℕ} {rows : List ℕ} {tic
   }
 
   -- What a tick keeps, and what it lets out.
-  next-tick : {after : List ℕ} {given : Output} → Stepped map rows after tick (picture (rowOf tick) (columnOf tick)) given
+  next-tick : {after : List ℕ} {given : Output} → Stepped map rows after tick (picture (row-of tick) (column-of tick)) given
       → Holding map picture after (tick + 1)
   unfolding entered
   next-tick S = elim (decLe 2 tick) [
@@ -143,8 +143,8 @@ module _ {map : List ℕ} {picture : ℕ → ℕ → ℕ} {rows : List ℕ} {tic
     | no a ↦ rw (S .keeps ∙ pick-true _ _ (lt-ltb tick 2 (omega arith))) (nothing-left (omega arith))
   ]
 
-  step-leaves : {after : List ℕ} {given : Output} → Stepped map rows after tick (picture (rowOf tick) (columnOf tick)) given → 2 ≤ tick
-      → given .leaving ≡ toLeave map picture (rowOf (tick - 2)) (columnOf (tick - 2))
+  step-leaves : {after : List ℕ} {given : Output} → Stepped map rows after tick (picture (row-of tick) (column-of tick)) given → 2 ≤ tick
+      → given .leaving ≡ to-leave map picture (row-of (tick - 2)) (column-of (tick - 2))
   unfolding entered
   step-leaves S h = S .leaves ∙ pick-false _ _ (le-ltb tick 2 h) ∙ leaving (tick - 2) (omega arith)
 
@@ -157,6 +157,6 @@ held (ticked R S) = next-tick (held R) S
 -- before, as the map has it leave.
 pub what-leaves-is-corrected : {map : List ℕ} {picture : ℕ → ℕ → ℕ} {tick : ℕ} {before after : List ℕ} {given : Output}
     → Ran map picture tick before
-    → Stepped map before after tick (picture (rowOf tick) (columnOf tick)) given → 2 ≤ tick
-    → given .leaving ≡ toLeave map picture (rowOf (tick - 2)) (columnOf (tick - 2))
+    → Stepped map before after tick (picture (row-of tick) (column-of tick)) given → 2 ≤ tick
+    → given .leaving ≡ to-leave map picture (row-of (tick - 2)) (column-of (tick - 2))
 what-leaves-is-corrected R S h = step-leaves (held R) S h

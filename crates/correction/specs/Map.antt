@@ -10,22 +10,22 @@ use Rattle.words.specs.Choice.{pick}
 use Rattle.correction.specs.declared.Found.{Found}
 
 -- The word of a pixel.
-abbrev pub entryOf : ℕ → ℕ → ℕ
-entryOf row column = row * 65536 + column
+abbrev pub entry-of : ℕ → ℕ → ℕ
+entry-of row column = row * 65536 + column
 
 -- The tick at which the pixel of a word comes in: 752 a row, one a column.
-abbrev pub tickOf : ℕ → ℕ
-tickOf entry = entry / 65536 * 752 + entry % 65536
+abbrev pub tick-of : ℕ → ℕ
+tick-of entry = entry / 65536 * 752 + entry % 65536
 
 -- The map names the pixel: some entry is its word.
 unfoldable pub names : List ℕ → ℕ → ℕ → Bool
 names [] row column = false
-names (entry ∷ map) row column = pick (eqb entry (entryOf row column)) true (names map row column)
+names (entry ∷ map) row column = pick (eqb entry (entry-of row column)) true (names map row column)
 
 -- Every entry has a column of the frame, the first comes in at the tick `from` or later, and each later than the one before.
 unfoldable pub ordered : ℕ → List ℕ → Bool
 ordered from [] = true
-ordered from (entry ∷ map) = pick (leb 752 (entry % 65536)) false (pick (ltb (tickOf entry) from) false (ordered (tickOf entry + 1) map))
+ordered from (entry ∷ map) = pick (leb 752 (entry % 65536)) false (pick (ltb (tick-of entry) from) false (ordered (tick-of entry + 1) map))
 
 -- So many entries are reached by the tick: those that are not come in then or later, in order, and those that are name no
 -- pixel that comes in then or later.

@@ -7,7 +7,7 @@ use Prim.Native.Nat.{ℕ, zero, suc, _+_, _/_}
 use lib.ListN.{length}
 use Rattle.words.specs.Choice.{pick}
 use Rattle.correction.specs.Map.{names}
-use Rattle.correction.specs.Rows.{rowOf, columnOf, Stepped}
+use Rattle.correction.specs.Rows.{row-of, column-of, Stepped}
 use Rattle.correction.specs.declared.Leaving.{Leaving}
 use Rattle.correction.specs.declared.Leaving.the-variants.{Kept, Replaced}
 use Rattle.correction.specs.declared.Output.{Output}
@@ -24,11 +24,11 @@ corrected map picture (suc row) (suc column) =
     (picture (suc row) (suc column))
 
 -- What is to leave of the pixel of a row and a column.
-unfoldable pub toLeave : List ℕ → (ℕ → ℕ → ℕ) → ℕ → ℕ → Leaving
-toLeave map picture row column = pick (names map row column) (Replaced (corrected map picture row column)) (Kept (picture row column))
+unfoldable pub to-leave : List ℕ → (ℕ → ℕ → ℕ) → ℕ → ℕ → Leaving
+to-leave map picture row column = pick (names map row column) (Replaced (corrected map picture row column)) (Kept (picture row column))
 
 -- The picture came in for so many ticks, from any two rows on.
 pub data Ran (map : List ℕ) (picture : ℕ → ℕ → ℕ) : ℕ → List ℕ → Type 0 where
   begun : {rows : List ℕ} → length rows ≡ 1504 → Ran map picture 0 rows
   ticked : {tick : ℕ} {before after : List ℕ} {given : Output} → Ran map picture tick before
-      → Stepped map before after tick (picture (rowOf tick) (columnOf tick)) given → Ran map picture (tick + 1) after
+      → Stepped map before after tick (picture (row-of tick) (column-of tick)) given → Ran map picture (tick + 1) after

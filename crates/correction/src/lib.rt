@@ -7,10 +7,10 @@
 // Example: with the one entry 65538 the pixel of row 1, column 2 comes in at tick 754 and leaves at tick 756 as the mean of
 // row 1, column 1 and row 0, column 2.
 ghost use mathlib.Core.Path.{_≡_};
-ghost use Prim.Native.Nat.{_+_, _-_, _*_, _/_, _%_, _<_};
+ghost use Prim.Native.Nat.{_+_, _-_, _*_, _/_, _<_};
 ghost use lib.ListN.{length};
-ghost use Rattle.correction.specs.Map.{entryOf, tickOf, ordered, Reached, LookedUp};
-ghost use Rattle.correction.specs.Rows.{rowOf, columnOf, placeOf, pixelAt, replacementBy, Left, Stepped};
+ghost use Rattle.correction.specs.Map.{entry-of, tick-of, ordered, Reached, LookedUp};
+ghost use Rattle.correction.specs.Rows.{row-of, column-of, place-of, pixel-at, replacement-by, Left, Stepped};
 
 // The columns of a row, and so the ticks that a row takes.
 pub const COLUMNS: u32 = 752;
@@ -43,28 +43,28 @@ pub struct Found {
 // The word that names a pixel.
 pub fn entry_of(row: u32, column: u32) -> u32
     requires { ⌜ (row < 65536) × (column < 65536) ⌝ }
-    ensures { λ r. ⌜ r ≡ entryOf row column ⌝ }
+    ensures { λ r. ⌜ r ≡ entry-of row column ⌝ }
 {
     row * 65536 + column
 }
 
 // The row of the pixel that comes in at a tick.
 pub fn row_of(tick: u32) -> u32
-    ensures { λ r. ⌜ r ≡ rowOf tick ⌝ }
+    ensures { λ r. ⌜ r ≡ row-of tick ⌝ }
 {
     tick / COLUMNS
 }
 
 // Its column.
 pub fn column_of(tick: u32) -> u32
-    ensures { λ r. ⌜ r ≡ columnOf tick ⌝ }
+    ensures { λ r. ⌜ r ≡ column-of tick ⌝ }
 {
     tick % COLUMNS
 }
 
 // The tick at which the pixel of an entry comes in.
 fn tick_of(entry: u32) -> u32
-    ensures { λ r. ⌜ (r ≡ tickOf entry) × (r < 65536 * 753) ⌝ }
+    ensures { λ r. ⌜ (r ≡ tick-of entry) × (r < 65536 * 753) ⌝ }
 {
     entry / 65536 * COLUMNS + entry % 65536
 }
@@ -115,7 +115,7 @@ fn lookup(map: &[u32], reached: usize, row: u32, column: u32) -> Found
 
 // Where the pixel of a tick stands in the two rows.
 fn place(tick: u32) -> usize
-    ensures { λ r. ⌜ r ≡ placeOf tick ⌝ }
+    ensures { λ r. ⌜ r ≡ place-of tick ⌝ }
 {
     (tick % TWO_ROWS) as usize
 }
@@ -136,7 +136,7 @@ fn mean(x: u8, y: u8) -> u8
 // What the rows hold for the pixel of a tick.
 fn kept(rows: &[u8], tick: u32) -> u8
     requires { ⌜ length (now rows) ≡ 1504 ⌝ }
-    ensures { λ r. ⌜ r ≡ pixelAt (now (rows .entry)) tick ⌝ }
+    ensures { λ r. ⌜ r ≡ pixel-at (now (rows .entry)) tick ⌝ }
 {
     rows[place(tick)]
 }
@@ -144,8 +144,8 @@ fn kept(rows: &[u8], tick: u32) -> u8
 // What replaces the pixel of a tick: the mean of its neighbour in the row and of the pixel above it, as they left; at the
 // frame's edge the one of the two that is there; in the first corner 0.
 fn replacement(rows: &[u8], tick: u32, row: u32, column: u32) -> u8
-    requires { ⌜ (length (now rows) ≡ 1504) × (row ≡ rowOf tick) × (column ≡ columnOf tick) ⌝ }
-    ensures { λ r. ⌜ r ≡ replacementBy (now (rows .entry)) tick row column ⌝ }
+    requires { ⌜ (length (now rows) ≡ 1504) × (row ≡ row-of tick) × (column ≡ column-of tick) ⌝ }
+    ensures { λ r. ⌜ r ≡ replacement-by (now (rows .entry)) tick row column ⌝ }
 {
     if column == 0 {
         if row == 0 {

@@ -2,13 +2,10 @@
 use mathlib.Core.Path.{_≡_, refl, sym, ap, _∙_}
 use mathlib.Core.Bool.{true, false}
 use mathlib.Core.List.{List}
-use Prim.Native.Nat.{ℕ, _+_, _*_, _-_, _/_, _≤_, _<_}
+use Prim.Native.Nat.{ℕ, _+_, _*_, _-_, _≤_, _<_}
 use native.Mathlib.Omega.{arith}
-use lib.Dec.{ltb}
 use lib.ListN.{length}
-use borrow.Author.Tests.{ltb-false}
-use Rattle.words.specs.Choice.{pick-case}
-use Rattle.meaning.specs.Tree.{nodeAt, treeAt, nodes, root}
+use Rattle.meaning.specs.Tree.{node-at, tree-at, nodes, root}
 use Rattle.meaning.specs.Alternative.{SeqAlt, expand}
 use Rattle.meaning.specs.Refusals.{entries, counts, and-then, walk, pair-counts, limited-within, walk-root, room-of}
 use Rattle.meaning.specs.Lowerable.{WellFormed, FormedTable, WalkableRoot}
@@ -18,15 +15,10 @@ use Rattle.meaning.specs.declared.Walked.{Walked}
 use Rattle.meaning.specs.declared.Walked.the-variants.{Counted, Refused}
 use Rattle.meaning.proofs.Nodes.{at-atom, at-delay, at-consec, at-goto, at-nonconsec, at-throughout, at-within}
 use Rattle.meaning.proofs.Ranges.{by-kind}
-use Rattle.meaning.proofs.Walks.{the-walk-counts-the-expansion, a-walked-root-is-walkable, root-counts, the-walk-counts-the-root}
+use Rattle.meaning.proofs.Walks.{the-walk-counts-the-expansion, a-walked-root-is-walkable, root-counts, the-walk-counts-the-root, room-is-small}
 use Rattle.count.specs.Nodes.{Countable, limit, paired}
 use Rattle.count.proofs.Leaves.{one-below}
 use Rattle.count.proofs.Stands.{limit-capped}
-
--- 01: "at most 65,536".
-room-is-small : (work : ℕ) → room-of work ≤ 65536
-unfolding room-of
-room-is-small work = pick-case (λ (r : ℕ). r ≤ 65536) (ltb 65536 (work / 16)) (λ _. omega arith) (λ e. ltb-false 65536 (work / 16) e)
 
 -- 9, 10 and 11 of a root within, from the counts of both operands.
 paired-counts : (room n : ℕ) (xs ys : List SeqAlt) → room ≤ 65536 → paired room n (counts xs) (counts ys) ≡ limited-within room n xs ys
@@ -42,14 +34,14 @@ module _ (t : List ℕ) (F : FormedTable t) (work : ℕ) {room : ℕ} (e : room 
   root-countable = record { formed = F; inside = omega (arith, F .some); rooms = small; deep = omega arith }
 
   -- .. and is the last node, which the code has as one less than their number.
-  root-is : root t ≡ treeAt t (nodes t - 1)
-  root-is = ap (λ (k : ℕ). treeAt t k) (sym (one-below (nodes t) (λ z. omega (arith, F .some))))
+  root-is : root t ≡ tree-at t (nodes t - 1)
+  root-is = ap (λ (k : ℕ). tree-at t k) (sym (one-below (nodes t) (λ z. omega (arith, F .some))))
 
 -- A root of another kind than within.
-no-within : (t : List ℕ) (n room : ℕ) → WellFormed n (nodeAt t n) → (nodeAt t n .kind ≡ 7 → ⊥) → walk-root room (treeAt t n) ≡ walk room 1 (treeAt t n)
+no-within : (t : List ℕ) (n room : ℕ) → WellFormed n (node-at t n) → (node-at t n .kind ≡ 7 → ⊥) → walk-root room (tree-at t n) ≡ walk room 1 (tree-at t n)
 unfolding walk-root
 no-within t n room w f =
-    by-kind (nodeAt t n .kind) (w .known)
+    by-kind (node-at t n .kind) (w .known)
     (λ k. rw (at-atom t n k) refl)
     (λ k. rw (at-delay t n k (w .delay-left k) (w .delay-right k)) refl)
     (λ k. rw (at-consec t n k (w .consec-under k)) refl)
@@ -59,16 +51,16 @@ no-within t n room w f =
     (λ k. absurd (f k))
 
 -- As the code meets them: v are the root's words, x and y the answers of a within's operands.
-module _ (t : List ℕ) (work : ℕ) {room : ℕ} {v : Node} (F : FormedTable t) (e : room ≡ room-of work) (w : v ≡ nodeAt t (nodes t - 1)) where
-  words : WellFormed (nodes t - 1) (nodeAt t (nodes t - 1))
+module _ (t : List ℕ) (work : ℕ) {room : ℕ} {v : Node} (F : FormedTable t) (e : room ≡ room-of work) (w : v ≡ node-at t (nodes t - 1)) where
+  words : WellFormed (nodes t - 1) (node-at t (nodes t - 1))
   words = F .each (nodes t - 1) (omega (arith, F .some))
 
   -- Any other root than a within.
-  pub other-root-done : {r : Walked} → (v .kind ≡ 7 → ⊥) → r ≡ walk room 1 (treeAt t (nodes t - 1)) → r ≡ walk-root (room-of work) (root t)
+  pub other-root-done : {r : Walked} → (v .kind ≡ 7 → ⊥) → r ≡ walk room 1 (tree-at t (nodes t - 1)) → r ≡ walk-root (room-of work) (root t)
   other-root-done f q = q ∙ rw (root-is t F work e, e) (sym (no-within t (nodes t - 1) (room-of work) words (rw w at f)))
 
   -- A root within: seq1, then seq2, then the pairs.
-  within-walk : v .kind ≡ 7 → walk-root (room-of work) (root t) ≡ and-then (walk room 1 (treeAt t (v .p))) (and-then (walk room 1 (treeAt t (v .q))) (limited-within room (nodes t - 1) (expand (treeAt t (v .p))) (expand (treeAt t (v .q)))))
+  within-walk : v .kind ≡ 7 → walk-root (room-of work) (root t) ≡ and-then (walk room 1 (tree-at t (v .p))) (and-then (walk room 1 (tree-at t (v .q))) (limited-within room (nodes t - 1) (expand (tree-at t (v .p))) (expand (tree-at t (v .q)))))
   unfolding walk-root
   within-walk k =
       let k′ = rw w at k in rw (root-is t F work e, ← e, w, at-within t (nodes t - 1) k′ (words .within-one k′) (words .within-two k′)) refl
@@ -84,23 +76,23 @@ module _ (t : List ℕ) (work : ℕ) {room : ℕ} {v : Node} (F : FormedTable t)
   two-countable k = operand-countable _ (rw w (words .within-two (rw w at k)))
 
   -- A refusal in seq1, or in seq2, is the answer ..
-  pub one-refused : {number place : ℕ} {x : Walked} → v .kind ≡ 7 → x ≡ walk room 1 (treeAt t (v .p)) → x ≡ Refused number place → x ≡ walk-root (room-of work) (root t)
+  pub one-refused : {number place : ℕ} {x : Walked} → v .kind ≡ 7 → x ≡ walk room 1 (tree-at t (v .p)) → x ≡ Refused number place → x ≡ walk-root (room-of work) (root t)
   unfolding and-then
   one-refused k a q = q ∙ sym (within-walk k ∙ rw (sym a ∙ q) refl)
 
-  pub two-refused : {number place : ℕ} {c : Counts} {x y : Walked} → v .kind ≡ 7 → x ≡ walk room 1 (treeAt t (v .p)) → x ≡ Counted c
-      → y ≡ walk room 1 (treeAt t (v .q)) → y ≡ Refused number place → y ≡ walk-root (room-of work) (root t)
+  pub two-refused : {number place : ℕ} {c : Counts} {x y : Walked} → v .kind ≡ 7 → x ≡ walk room 1 (tree-at t (v .p)) → x ≡ Counted c
+      → y ≡ walk room 1 (tree-at t (v .q)) → y ≡ Refused number place → y ≡ walk-root (room-of work) (root t)
   unfolding and-then
   two-refused k a q a′ q′ = q′ ∙ sym (within-walk k ∙ rw (sym a ∙ q, sym a′ ∙ q′) refl)
 
   -- .. else 9, 10 and 11 of the root.
-  pub within-done : {c c′ : Counts} {x y z : Walked} → v .kind ≡ 7 → x ≡ walk room 1 (treeAt t (v .p)) → x ≡ Counted c
-      → y ≡ walk room 1 (treeAt t (v .q)) → y ≡ Counted c′ → z ≡ paired room (nodes t - 1) c c′ → z ≡ walk-root (room-of work) (root t)
+  pub within-done : {c c′ : Counts} {x y z : Walked} → v .kind ≡ 7 → x ≡ walk room 1 (tree-at t (v .p)) → x ≡ Counted c
+      → y ≡ walk room 1 (tree-at t (v .q)) → y ≡ Counted c′ → z ≡ paired room (nodes t - 1) c c′ → z ≡ walk-root (room-of work) (root t)
   unfolding and-then
   within-done {c} {c′} k a q a′ q′ u =
-      let one = the-walk-counts-the-expansion room 1 (treeAt t (v .p)) c (sym a ∙ q) in
-      let two = the-walk-counts-the-expansion room 1 (treeAt t (v .q)) c′ (sym a′ ∙ q′) in
-      let decided : paired room (nodes t - 1) c c′ ≡ limited-within room (nodes t - 1) (expand (treeAt t (v .p))) (expand (treeAt t (v .q))) =
+      let one = the-walk-counts-the-expansion room 1 (tree-at t (v .p)) c (sym a ∙ q) in
+      let two = the-walk-counts-the-expansion room 1 (tree-at t (v .q)) c′ (sym a′ ∙ q′) in
+      let decided : paired room (nodes t - 1) c c′ ≡ limited-within room (nodes t - 1) (expand (tree-at t (v .p))) (expand (tree-at t (v .q))) =
       rw (one, two) (paired-counts room (nodes t - 1) _ _ (small t F work e)) in
       u ∙ decided ∙ sym (within-walk k ∙ rw (sym a ∙ q, sym a′ ∙ q′) refl)
 

@@ -10,6 +10,7 @@ use lib.Dec.{ltb}
 use lib.ListN.{length}
 use borrow.Author.Tests.{ltb-true, ltb-false, lt-ltb, ne-eqb}
 use Rattle.words.specs.Choice.{pick, pick-case, pick-cong, pick-true}
+use Rattle.words.proofs.Taken.{no-test}
 use Rattle.meaning.specs.Tree.{finite, unbounded, below}
 use Rattle.meaning.specs.Alternative.{SeqAlt, single, join-lefts, join-hops, hops, copies, copies-from, with-empty, consec-finite, guard-each}
 use Rattle.meaning.specs.Refusals.{entries, is-bool, plain, guarded, counts, limited}
@@ -197,12 +198,6 @@ product-guarded : (l r : Counts) → product l r .guarded ≡ pick (l .guarded) 
 unfolding product
 product-guarded l r = capped-flags _ _ _ _ .1
 
--- An operand that is not plain leaves nothing plain.
-never : (p : Bool) → pick p false false ≡ false
-unfolding pick
-never true = refl
-never false = refl
-
 -- A base and its counts.
 module _ (base : List SeqAlt) (b : Counts) (stands : Stands b base) (some : 1 ≤ length base) (led : AllLed base) where
   one-copy-more : (j : ℕ) {x : Counts} → Stands x (copies base j) → Stands (product x b) (copies base (suc j))
@@ -250,7 +245,7 @@ module _ (ls rs : List SeqAlt) (l r : Counts) (s : Stands l ls) (q : Stands r rs
       let t = tally-delay m unbounded ls rs in
       let p = same-products some-l some-r (s .numbers) (q .numbers) in
       capped-stands (along (ap alternatives-of t ∙ once _) (ap entries-of t ∙ once _) p)
-      (never (l .plain) ∙ sym (at-least-is-not-plain ls rs some-l some-r m led))
+      (no-test (l .plain) ∙ sym (at-least-is-not-plain ls rs some-l some-r m led))
       (rw (s .guardedly, q .guardedly) (sym (guarded-delay ls rs some-l some-r m unbounded tt)))
     where
       once : (n : ℕ) → 1 * n ≡ n

@@ -10,36 +10,23 @@ use lib.Dec.{eqb, ltb}
 use lib.ListN.{length}
 use borrow.Author.Tests.{eqb-true, eqb-false, eq-eqb, ne-eqb, lt-ltb, not-true}
 use Rattle.words.specs.Choice.{pick, pick-case, pick-true}
-use Rattle.meaning.specs.Tree.{finite, unbounded, Seq, atom, delay, consec, goto, nonconsec, throughout, within, number, nodeAt, unlimited, maxOf, treeAt, nodes}
+use Rattle.meaning.specs.Tree.{finite, Seq, delay, consec, number, node-at, unlimited, max-of, tree-at, nodes}
 use Rattle.meaning.specs.Alternative.{consec-finite, guard-each, expand}
 use Rattle.meaning.specs.Refusals.{plain, counts, limited, and-then, deep-enough, walk-in, walk}
-use Rattle.meaning.specs.Lowerable.{WellFormed, FormedTable, Bounded, Walkable}
+use Rattle.meaning.specs.Lowerable.{WellFormed, FormedTable}
 use Rattle.meaning.specs.declared.Node.{Node}
 use Rattle.meaning.specs.declared.Counts.{Counts}
 use Rattle.meaning.specs.declared.Walked.{Walked}
 use Rattle.meaning.specs.declared.Walked.the-variants.{Counted, Refused}
 use Rattle.meaning.proofs.Nodes.{at-delay, at-throughout}
-use Rattle.meaning.proofs.Taken.{both-hold}
-use Rattle.meaning.proofs.Ranges.{a-formed-tree-is-ranged}
-use Rattle.meaning.proofs.Walks.{a-walked-tree-is-walkable, the-walk-counts-the-expansion}
-use Rattle.meaning.proofs.Flags.{alternatives-are-led, some-alternatives}
+use Rattle.words.proofs.Taken.{both-hold}
+use Rattle.meaning.proofs.Ranges.{finite-max, a-formed-tree-is-ranged}
+use Rattle.meaning.proofs.Walks.{a-walked-tree-is-walkable, the-walk-counts-the-expansion, a-walkable-tree-is-bounded}
+use Rattle.meaning.proofs.Flags.{alternatives-are-led, a-walkable-tree-has-alternatives}
 use Rattle.count.specs.Capped.{Small, guarded-each}
 use Rattle.count.specs.Nodes.{Countable, Unvisited, limit, delay-counts, consec-counts, repeated, covered, is-repeated}
 use Rattle.count.proofs.Stands.{Stands, counts-stand, limit-stands, fixed-stands, at-least-stands, consec-stands, guarded-each-stands}
-use Rattle.count.proofs.NotVisited.{finite-max, not-too-deep, consec-at}
-
--- 10 and 11 hold of every node that the walk lets pass.
-walkable-is-bounded : (room : ℕ) (s : Seq) → Walkable room s → Bounded room (expand s)
-unfolding Walkable
-walkable-is-bounded room (atom n a) w = w
-walkable-is-bounded room (delay n l r m x) w = w .2
-walkable-is-bounded room (consec n s m (finite zero)) w = w
-walkable-is-bounded room (consec n s m (finite (suc x))) w = w .2
-walkable-is-bounded room (consec n s m unbounded) w = w .2
-walkable-is-bounded room (goto n s k) w = w .2
-walkable-is-bounded room (nonconsec n s k) w = w .2
-walkable-is-bounded room (throughout n c s) w = w .2
-walkable-is-bounded room (within n s₁ s₂) w = absurd w
+use Rattle.count.proofs.NotVisited.{not-too-deep, consec-at}
 
 -- An answer that counts.
 module _ (room d : ℕ) (s : Seq) {r : Walked} {c : Counts} (e : r ≡ walk room d s) (q : r ≡ Counted c) where
@@ -54,18 +41,18 @@ module _ (room d : ℕ) (s : Seq) {r : Walked} {c : Counts} (e : r ≡ walk room
   pub answer-is-small : room ≤ 65536 → Small c
   unfolding counts
   answer-is-small h =
-      let b = walkable-is-bounded room s (a-walked-tree-is-walkable room d s c (sym e ∙ q)) in
+      let b = a-walkable-tree-is-bounded room s (a-walked-tree-is-walkable room d s c (sym e ∙ q)) in
       rw answer-counts (record { few = omega (arith, b .few); short = omega (arith, b .fits) })
 
 -- .. of a node of a formed table has an alternative.
-pub answer-has-some : (t : List ℕ) (k room d : ℕ) {r : Walked} {c : Counts} → FormedTable t → k < nodes t → r ≡ walk room d (treeAt t k) → r ≡ Counted c
-    → 1 ≤ length (expand (treeAt t k))
+pub answer-has-some : (t : List ℕ) (k room d : ℕ) {r : Walked} {c : Counts} → FormedTable t → k < nodes t → r ≡ walk room d (tree-at t k) → r ≡ Counted c
+    → 1 ≤ length (expand (tree-at t k))
 answer-has-some t k room d {r} {c} formed inside e q =
-    some-alternatives room (treeAt t k) (a-formed-tree-is-ranged t formed k inside) (a-walked-tree-is-walkable room d (treeAt t k) c (sym e ∙ q))
+    a-walkable-tree-has-alternatives room (tree-at t k) (a-formed-tree-is-ranged t formed k inside) (a-walked-tree-is-walkable room d (tree-at t k) c (sym e ∙ q))
 
 -- A tree has the number of its node.
-number-of : (t : List ℕ) (n : ℕ) → number (treeAt t n) ≡ n
-unfolding treeAt
+number-of : (t : List ℕ) (n : ℕ) → number (tree-at t n) ≡ n
+unfolding tree-at
 number-of t n =
     pick-case Numbered _ (λ _. refl) (λ _. pick-case Numbered _ (λ _. refl) (λ _. pick-case Numbered _ (λ _. refl)
     (λ _. pick-case Numbered _ (λ _. refl) (λ _. pick-case Numbered _ (λ _. refl) (λ _. pick-case Numbered _ (λ _. refl) (λ _. refl))))))
@@ -74,7 +61,7 @@ number-of t n =
     Numbered s = number s ≡ n
 
 -- 4.
-pub too-deep : (t : List ℕ) (n room d : ℕ) → 256 < d → Refused 4 n ≡ walk room d (treeAt t n)
+pub too-deep : (t : List ℕ) (n room d : ℕ) → 256 < d → Refused 4 n ≡ walk room d (tree-at t n)
 unfolding walk deep-enough
 too-deep t n room d h = sym (pick-true _ _ (lt-ltb _ _ h) ∙ ap (Refused 4) (number-of t n))
 
@@ -94,28 +81,28 @@ some-repetition room d n m (suc x) s f = refl
 
 -- The walk at each kind whose operands are visited.
 module _ (t : List ℕ) (n room d : ℕ) (S : Countable t n room d) (h : d ≤ 256) where
-  w : WellFormed n (nodeAt t n)
+  w : WellFormed n (node-at t n)
   w = S .formed .each n (S .inside)
 
   -- What the walk answers below this node.
   abbrev below-it : ℕ → Walked
-  below-it k = walk room (d + 1) (treeAt t k)
+  below-it k = walk room (d + 1) (tree-at t k)
 
   -- Left, then right, then 10 and 11.
-  at-a-delay : nodeAt t n .kind ≡ 2
-      → walk room d (treeAt t n) ≡ and-then (below-it (nodeAt t n .p)) (and-then (below-it (nodeAt t n .q)) (limited room n (expand (delay n (treeAt t (nodeAt t n .p)) (treeAt t (nodeAt t n .q)) (nodeAt t n .min) (maxOf (nodeAt t n .max))))))
+  at-a-delay : node-at t n .kind ≡ 2
+      → walk room d (tree-at t n) ≡ and-then (below-it (node-at t n .p)) (and-then (below-it (node-at t n .q)) (limited room n (expand (delay n (tree-at t (node-at t n .p)) (tree-at t (node-at t n .q)) (node-at t n .min) (max-of (node-at t n .max))))))
   unfolding walk-in walk
   at-a-delay k = rw (at-delay t n k (w .delay-left k) (w .delay-right k)) (not-too-deep room d _ h)
 
   -- The operand, then 7, 10 and 11.
-  at-a-throughout : nodeAt t n .kind ≡ 6
-      → walk room d (treeAt t n) ≡ and-then (below-it (nodeAt t n .q)) (pick (plain (expand (treeAt t (nodeAt t n .q)))) (limited room n (guard-each (nodeAt t n .p) (expand (treeAt t (nodeAt t n .q))))) (Refused 7 n))
+  at-a-throughout : node-at t n .kind ≡ 6
+      → walk room d (tree-at t n) ≡ and-then (below-it (node-at t n .q)) (pick (plain (expand (tree-at t (node-at t n .q)))) (limited room n (guard-each (node-at t n .p) (expand (tree-at t (node-at t n .q))))) (Refused 7 n))
   unfolding walk-in walk
   at-a-throughout k = rw (at-throughout t n k (w .throughout-under k)) (not-too-deep room d _ h)
 
   -- The operand, then 5, 10 and 11.
-  at-a-repetition : nodeAt t n .kind ≡ 3 → (nodeAt t n .max ≡ 0 → ⊥) → (nodeAt t n .max ≡ unlimited → ⊥)
-      → walk room d (treeAt t n) ≡ and-then (below-it (nodeAt t n .p)) (pick (ltb 256 (nodeAt t n .max)) (Refused 5 n) (limited room n (consec-finite (expand (treeAt t (nodeAt t n .p))) (nodeAt t n .min) (nodeAt t n .max))))
+  at-a-repetition : node-at t n .kind ≡ 3 → (node-at t n .max ≡ 0 → ⊥) → (node-at t n .max ≡ unlimited → ⊥)
+      → walk room d (tree-at t n) ≡ and-then (below-it (node-at t n .p)) (pick (ltb 256 (node-at t n .max)) (Refused 5 n) (limited room n (consec-finite (expand (tree-at t (node-at t n .p))) (node-at t n .min) (node-at t n .max))))
   at-a-repetition k f g =
       rw (consec-at t n room d S h k (finite-max _ g)) (not-too-deep room d _ h ∙ some-repetition room d n _ _ _ f)
 
@@ -125,80 +112,80 @@ module _ (t : List ℕ) (n room d : ℕ) (S : Countable t n room d) (h : d ≤ 2
   lower-inside k l = omega (arith, S .inside)
 
   -- A delay's 10 and 11.
-  delay-decided : (v : Node) → v ≡ nodeAt t n → v .kind ≡ 2 → {x y : Walked} {l r : Counts} → x ≡ walk room (d + 1) (treeAt t (v .p)) → x ≡ Counted l
-      → y ≡ walk room (d + 1) (treeAt t (v .q)) → y ≡ Counted r
-      → limit room n (delay-counts v l r) ≡ limited room n (expand (delay n (treeAt t (v .p)) (treeAt t (v .q)) (v .min) (maxOf (v .max))))
+  delay-decided : (v : Node) → v ≡ node-at t n → v .kind ≡ 2 → {x y : Walked} {l r : Counts} → x ≡ walk room (d + 1) (tree-at t (v .p)) → x ≡ Counted l
+      → y ≡ walk room (d + 1) (tree-at t (v .q)) → y ≡ Counted r
+      → limit room n (delay-counts v l r) ≡ limited room n (expand (delay n (tree-at t (v .p)) (tree-at t (v .q)) (v .min) (max-of (v .max))))
   unfolding delay-counts pick
   delay-decided v e k {x} {y} {l} {r} a a′ b b′ =
       let w : WellFormed n v = rw e (S .formed .each n (S .inside)) in
-      let ls = expand (treeAt t (v .p)) in
-      let rs = expand (treeAt t (v .q)) in
-      let s = answer-stands room (d + 1) (treeAt t (v .p)) a a′ in
-      let q = answer-stands room (d + 1) (treeAt t (v .q)) b b′ in
+      let ls = expand (tree-at t (v .p)) in
+      let rs = expand (tree-at t (v .q)) in
+      let s = answer-stands room (d + 1) (tree-at t (v .p)) a a′ in
+      let q = answer-stands room (d + 1) (tree-at t (v .q)) b b′ in
       let some-l = answer-has-some t (v .p) room (d + 1) (S .formed) (lower-inside (v .p) (w .delay-left k)) a a′ in
       let some-r = answer-has-some t (v .q) room (d + 1) (S .formed) (lower-inside (v .q) (w .delay-right k)) b b′ in
-      let led = alternatives-are-led (treeAt t (v .q)) in
+      let led = alternatives-are-led (tree-at t (v .q)) in
       elim (ℕ-discrete (v .max) unlimited) [
         | yes at-least ↦ rw (eq-eqb (v .max) unlimited at-least) (limit-stands room n (S .rooms) (at-least-stands ls rs l r s q some-l some-r led (v .min)))
         | no fixed ↦ rw (ne-eqb (v .max) unlimited fixed) (limit-stands room n (S .rooms) (fixed-stands ls rs l r s q some-l some-r led (v .min) (v .max) (w .delay-range k)))
       ]
 
   -- A throughout's 7, 10 and 11.
-  covered-decided : (v : Node) → v ≡ nodeAt t n → v .kind ≡ 6 → {x : Walked} {s : Counts} → x ≡ walk room (d + 1) (treeAt t (v .q)) → x ≡ Counted s
-      → covered room n s ≡ pick (plain (expand (treeAt t (v .q)))) (limited room n (guard-each (v .p) (expand (treeAt t (v .q))))) (Refused 7 n)
+  covered-decided : (v : Node) → v ≡ node-at t n → v .kind ≡ 6 → {x : Walked} {s : Counts} → x ≡ walk room (d + 1) (tree-at t (v .q)) → x ≡ Counted s
+      → covered room n s ≡ pick (plain (expand (tree-at t (v .q)))) (limited room n (guard-each (v .p) (expand (tree-at t (v .q))))) (Refused 7 n)
   unfolding covered
   covered-decided v e k {x} {s} a a′ =
       let w : WellFormed n v = rw e (S .formed .each n (S .inside)) in
-      let q = answer-stands room (d + 1) (treeAt t (v .q)) a a′ in
+      let q = answer-stands room (d + 1) (tree-at t (v .q)) a a′ in
       let some = answer-has-some t (v .q) room (d + 1) (S .formed) (lower-inside (v .q) (w .throughout-under k)) a a′ in
       ap (λ (b : Bool). pick b (limit room n (guarded-each s)) (Refused 7 n)) (q .plainly)
-      ∙ rw (limit-stands room n (S .rooms) (guarded-each-stands (v .p) (expand (treeAt t (v .q))) s q some)) refl
+      ∙ rw (limit-stands room n (S .rooms) (guarded-each-stands (v .p) (expand (tree-at t (v .q))) s q some)) refl
 
   -- A finite [*]'s 5, 10 and 11.
-  repeated-decided : (v : Node) → v ≡ nodeAt t n → v .kind ≡ 3 → (v .max ≡ 0 → ⊥) → {x : Walked} {s : Counts} → x ≡ walk room (d + 1) (treeAt t (v .p)) → x ≡ Counted s
-      → repeated room n v s ≡ pick (ltb 256 (v .max)) (Refused 5 n) (limited room n (consec-finite (expand (treeAt t (v .p))) (v .min) (v .max)))
+  repeated-decided : (v : Node) → v ≡ node-at t n → v .kind ≡ 3 → (v .max ≡ 0 → ⊥) → {x : Walked} {s : Counts} → x ≡ walk room (d + 1) (tree-at t (v .p)) → x ≡ Counted s
+      → repeated room n v s ≡ pick (ltb 256 (v .max)) (Refused 5 n) (limited room n (consec-finite (expand (tree-at t (v .p))) (v .min) (v .max)))
   unfolding repeated consec-counts
   repeated-decided v e k f {x} {s} a a′ =
       let w : WellFormed n v = rw e (S .formed .each n (S .inside)) in
-      let base = expand (treeAt t (v .p)) in
-      let q = answer-stands room (d + 1) (treeAt t (v .p)) a a′ in
+      let base = expand (tree-at t (v .p)) in
+      let q = answer-stands room (d + 1) (tree-at t (v .p)) a a′ in
       let some = answer-has-some t (v .p) room (d + 1) (S .formed) (lower-inside (v .p) (w .consec-under k)) a a′ in
-      let led = alternatives-are-led (treeAt t (v .p)) in
+      let led = alternatives-are-led (tree-at t (v .p)) in
       rw (limit-stands room n (S .rooms) (consec-stands base s q some led (v .min) (v .max) f)) refl
 
 -- The returns of the code: v are the node's words, x and y the answers below it.
-module _ {t : List ℕ} {n room d : ℕ} {v : Node} (S : Countable t n room d) (h : d ≤ 256) (w : v ≡ nodeAt t n) where
+module _ {t : List ℕ} {n room d : ℕ} {v : Node} (S : Countable t n room d) (h : d ≤ 256) (w : v ≡ node-at t n) where
   -- The walk at a delay, from the words that were read.
-  delay-walk : v .kind ≡ 2 → walk room d (treeAt t n) ≡ and-then (walk room (d + 1) (treeAt t (v .p))) (and-then (walk room (d + 1) (treeAt t (v .q))) (limited room n (expand (delay n (treeAt t (v .p)) (treeAt t (v .q)) (v .min) (maxOf (v .max))))))
+  delay-walk : v .kind ≡ 2 → walk room d (tree-at t n) ≡ and-then (walk room (d + 1) (tree-at t (v .p))) (and-then (walk room (d + 1) (tree-at t (v .q))) (limited room n (expand (delay n (tree-at t (v .p)) (tree-at t (v .q)) (v .min) (max-of (v .max))))))
   delay-walk k = rw w (at-a-delay t n room d S h (rw w at k))
 
   -- A refusal of the left operand is the answer ..
-  pub left-refused : {number place : ℕ} {x : Walked} → v .kind ≡ 2 → x ≡ walk room (d + 1) (treeAt t (v .p)) → x ≡ Refused number place → x ≡ walk room d (treeAt t n)
+  pub left-refused : {number place : ℕ} {x : Walked} → v .kind ≡ 2 → x ≡ walk room (d + 1) (tree-at t (v .p)) → x ≡ Refused number place → x ≡ walk room d (tree-at t n)
   unfolding and-then
   left-refused k e q = q ∙ sym (delay-walk k ∙ rw (sym e ∙ q) refl)
 
   -- .. then one of the right operand ..
-  pub right-refused : {number place : ℕ} {l : Counts} {x y : Walked} → v .kind ≡ 2 → x ≡ walk room (d + 1) (treeAt t (v .p)) → x ≡ Counted l
-      → y ≡ walk room (d + 1) (treeAt t (v .q)) → y ≡ Refused number place → y ≡ walk room d (treeAt t n)
+  pub right-refused : {number place : ℕ} {l : Counts} {x y : Walked} → v .kind ≡ 2 → x ≡ walk room (d + 1) (tree-at t (v .p)) → x ≡ Counted l
+      → y ≡ walk room (d + 1) (tree-at t (v .q)) → y ≡ Refused number place → y ≡ walk room d (tree-at t n)
   unfolding and-then
   right-refused k e q e′ q′ = q′ ∙ sym (delay-walk k ∙ rw (sym e ∙ q, sym e′ ∙ q′) refl)
 
   -- .. then the delay's own.
-  pub delay-done : {l r : Counts} {x y z : Walked} → v .kind ≡ 2 → x ≡ walk room (d + 1) (treeAt t (v .p)) → x ≡ Counted l
-      → y ≡ walk room (d + 1) (treeAt t (v .q)) → y ≡ Counted r → z ≡ limit room n (delay-counts v l r) → z ≡ walk room d (treeAt t n)
+  pub delay-done : {l r : Counts} {x y z : Walked} → v .kind ≡ 2 → x ≡ walk room (d + 1) (tree-at t (v .p)) → x ≡ Counted l
+      → y ≡ walk room (d + 1) (tree-at t (v .q)) → y ≡ Counted r → z ≡ limit room n (delay-counts v l r) → z ≡ walk room d (tree-at t n)
   unfolding and-then
   delay-done k e q e′ q′ u = u ∙ delay-decided t n room d S h v w k e q e′ q′ ∙ sym (delay-walk k ∙ rw (sym e ∙ q, sym e′ ∙ q′) refl)
 
   -- The walk at a throughout, from the words that were read.
-  throughout-walk : v .kind ≡ 6 → walk room d (treeAt t n) ≡ and-then (walk room (d + 1) (treeAt t (v .q))) (pick (plain (expand (treeAt t (v .q)))) (limited room n (guard-each (v .p) (expand (treeAt t (v .q))))) (Refused 7 n))
+  throughout-walk : v .kind ≡ 6 → walk room d (tree-at t n) ≡ and-then (walk room (d + 1) (tree-at t (v .q))) (pick (plain (expand (tree-at t (v .q)))) (limited room n (guard-each (v .p) (expand (tree-at t (v .q))))) (Refused 7 n))
   throughout-walk k = rw w (at-a-throughout t n room d S h (rw w at k))
 
   -- A refusal of its operand is the answer, then its own.
-  pub covered-operand-refused : {number place : ℕ} {x : Walked} → v .kind ≡ 6 → x ≡ walk room (d + 1) (treeAt t (v .q)) → x ≡ Refused number place → x ≡ walk room d (treeAt t n)
+  pub covered-operand-refused : {number place : ℕ} {x : Walked} → v .kind ≡ 6 → x ≡ walk room (d + 1) (tree-at t (v .q)) → x ≡ Refused number place → x ≡ walk room d (tree-at t n)
   unfolding and-then
   covered-operand-refused k e q = q ∙ sym (throughout-walk k ∙ rw (sym e ∙ q) refl)
 
-  pub covered-done : {s : Counts} {x z : Walked} → v .kind ≡ 6 → x ≡ walk room (d + 1) (treeAt t (v .q)) → x ≡ Counted s → z ≡ covered room n s → z ≡ walk room d (treeAt t n)
+  pub covered-done : {s : Counts} {x z : Walked} → v .kind ≡ 6 → x ≡ walk room (d + 1) (tree-at t (v .q)) → x ≡ Counted s → z ≡ covered room n s → z ≡ walk room d (tree-at t n)
   unfolding and-then
   covered-done k e q u = u ∙ covered-decided t n room d S h v w k e q ∙ sym (throughout-walk k ∙ rw (sym e ∙ q) refl)
 
@@ -216,18 +203,18 @@ module _ {t : List ℕ} {n room d : ℕ} {v : Node} (S : Countable t n room d) (
 
   -- The walk at such a [*], from the words that were read.
   repetition-walk : {b : Bool} → b ≡ is-repeated v → b ≡ true
-      → walk room d (treeAt t n) ≡ and-then (walk room (d + 1) (treeAt t (v .p))) (pick (ltb 256 (v .max)) (Refused 5 n) (limited room n (consec-finite (expand (treeAt t (v .p))) (v .min) (v .max))))
+      → walk room d (tree-at t n) ≡ and-then (walk room (d + 1) (tree-at t (v .p))) (pick (ltb 256 (v .max)) (Refused 5 n) (limited room n (consec-finite (expand (tree-at t (v .p))) (v .min) (v .max))))
   repetition-walk e q =
       let (some, ends) = repeated-max e q in rw w (at-a-repetition t n room d S h (rw w at (repeated-kind e q)) (rw w at some) (rw w at ends))
 
   -- A refusal of its operand is the answer, then its own.
-  pub repeated-operand-refused : {number place : ℕ} {b : Bool} {x : Walked} → b ≡ is-repeated v → b ≡ true → x ≡ walk room (d + 1) (treeAt t (v .p)) → x ≡ Refused number place
-      → x ≡ walk room d (treeAt t n)
+  pub repeated-operand-refused : {number place : ℕ} {b : Bool} {x : Walked} → b ≡ is-repeated v → b ≡ true → x ≡ walk room (d + 1) (tree-at t (v .p)) → x ≡ Refused number place
+      → x ≡ walk room d (tree-at t n)
   unfolding and-then
   repeated-operand-refused p p′ e q = q ∙ sym (repetition-walk p p′ ∙ rw (sym e ∙ q) refl)
 
-  pub repeated-done : {b : Bool} {s : Counts} {x z : Walked} → b ≡ is-repeated v → b ≡ true → x ≡ walk room (d + 1) (treeAt t (v .p)) → x ≡ Counted s
-      → z ≡ repeated room n v s → z ≡ walk room d (treeAt t n)
+  pub repeated-done : {b : Bool} {s : Counts} {x z : Walked} → b ≡ is-repeated v → b ≡ true → x ≡ walk room (d + 1) (tree-at t (v .p)) → x ≡ Counted s
+      → z ≡ repeated room n v s → z ≡ walk room d (tree-at t n)
   unfolding and-then
   repeated-done p p′ e q u =
       u ∙ repeated-decided t n room d S h v w (repeated-kind p p′) (repeated-max p p′ .0) e q ∙ sym (repetition-walk p p′ ∙ rw (sym e ∙ q) refl)

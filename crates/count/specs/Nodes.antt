@@ -6,7 +6,7 @@ use mathlib.Core.List.{List}
 use Prim.Native.Nat.{ℕ, _+_, _*_, _-_, _≤_, _<_}
 use lib.Dec.{eqb, ltb}
 use Rattle.words.specs.Choice.{pick}
-use Rattle.meaning.specs.Tree.{nodeAt, nodes, below, unlimited}
+use Rattle.meaning.specs.Tree.{node-at, nodes, below, unlimited}
 use Rattle.meaning.specs.Lowerable.{FormedTable}
 use Rattle.meaning.specs.declared.Node.{Node}
 use Rattle.meaning.specs.declared.Counts.{Counts}
@@ -25,7 +25,7 @@ pub record Countable (t : List ℕ) (n room depth : ℕ) : Type 0 where
 pub record Unvisited (t : List ℕ) (n : ℕ) (v : Node) : Type 0 where
   pub formed : FormedTable t
   pub inside : n < nodes t
-  pub words : v ≡ nodeAt t n
+  pub words : v ≡ node-at t n
   pub no-delay : v .kind ≡ 2 → ⊥
   pub no-throughout : v .kind ≡ 6 → ⊥
 

@@ -6,7 +6,7 @@ ghost use mathlib.Core.Path.{_≡_};
 ghost use mathlib.Core.Bool.{true};
 ghost use Prim.Native.Nat.{_≤_};
 ghost use Rattle.words.specs.Choice.{pick};
-ghost use Rattle.meaning.specs.Tree.{below, nodeAt, treeAt, root};
+ghost use Rattle.meaning.specs.Tree.{below, node-at, tree-at, root};
 ghost use Rattle.meaning.specs.Refusals.{walk, walk-root, room-of};
 ghost use Rattle.meaning.specs.Lowerable.{FormedTable};
 ghost use Rattle.count.specs.Capped.{nothing, capped, Small, product, sum, times, copied, summed, with-empty, not-plain, guarded-each};
@@ -277,7 +277,7 @@ fn is_repeated(v: meaning::Node) -> bool
 // 8, and the kinds whose operand is not visited: atom, goto, nonconsecutive, [*0] and [*m:$].
 fn unvisited(t: &[u32], n: u32, room: u32, v: meaning::Node) -> meaning::Walked
     requires { ⌜ Unvisited (now t) n v ⌝ }
-    ensures { λ r. ⌜ r ≡ unvisited room n v (nodeAt (now (t .entry)) (v .p)) ⌝ }
+    ensures { λ r. ⌜ r ≡ unvisited room n v (node-at (now (t .entry)) (v .p)) ⌝ }
 {
     if v.kind == 7 {
         return meaning::Walked::Refused(8, n);
@@ -294,7 +294,7 @@ fn unvisited(t: &[u32], n: u32, room: u32, v: meaning::Node) -> meaning::Walked
 // The walk below node n, the node included. By recursion on the node number: operands are lower.
 pub fn walked(t: &[u32], n: u32, room: u32, depth: u32) -> meaning::Walked
     requires { ⌜ Countable (now t) n room depth ⌝ }
-    ensures { λ r. ⌜ r ≡ walk room depth (treeAt (now (t .entry)) n) ⌝ }
+    ensures { λ r. ⌜ r ≡ walk room depth (tree-at (now (t .entry)) n) ⌝ }
 {
     if 256 < depth {
         return meaning::Walked::Refused(4, n);

@@ -9,29 +9,28 @@ use lib.ListN.{length, length-append}
 use borrow.Author.Tests.{le-ltb, ne-eqb}
 use Rattle.words.specs.Choice.{pick, pick-true, pick-false}
 use Rattle.meaning.specs.Tree.{below}
-use Rattle.meaning.specs.Expression.{Expr, r·, one·, or·, Store, Synth, synth, andThen}
+use Rattle.meaning.specs.Expression.{Expr, r·, one·, or·, Store, Synth, synth, chained}
 use Rattle.meaning.specs.Alternative.{Guard, unguarded, guard, step}
 use Rattle.meaning.specs.Machines.{goto-stages, goto-fsm, extension, nonconsec-fsm, run-stages, consec-run-fsm}
 use Rattle.meaning.specs.Pipeline.{guard-and, delays, latch, hop-over, apply-term, seed, later, laters, synth-seq-pipeline}
 use Rattle.meaning.specs.Listing.{expression-words}
+use Rattle.meaning.proofs.Members.{below-is-one-less}
 use Rattle.meaning.specs.declared.SeqTerm.{SeqTerm}
 use Rattle.meaning.specs.declared.SeqTerm.the-variants.{Bool as BoolTerm, Goto, Nonconsec, ConsecAtLeast, Empty}
 use Rattle.meaning.specs.declared.SeqHop.{SeqHop}
 use Rattle.meaning.specs.declared.SeqHop.the-variants.{Fixed, AtLeast}
 use Rattle.meaning.specs.declared.SeqStep.{SeqStep}
-use Rattle.current.specs.Text.{atomWord, registerWord, anyWord, andWord, orWord, guardWords, nthStep, Stored, beforeEmpty, reach, atLeastOne, hopRegisters, termRegisters, stepRegisters, registersAt, registersBefore, hopKeeps, termKeeps, hopPrefix, hopSuffix, termPrefix, termSuffix, hopBase, termBase, hopText, termText, stepText, leadText, textAt, extensionWords}
+use Rattle.term.specs.Guards.{guard-words}
+use Rattle.term.specs.Steps.{nth-step, Stored}
+use Rattle.current.specs.Text.{atom-word, register-word, any-word, and-word, or-word, before-empty, reach, at-least-one, hop-registers, term-registers, step-registers, registers-at, registers-before, hop-keeps, term-keeps, hop-prefix, hop-suffix, term-prefix, term-suffix, hop-base, term-base, hop-text, term-text, step-text, lead-text, text-at, extension-words}
 
 -- The guard's words behind an expression guard it.
-pub guarded-words : (g : Guard) (e : Expr) → expression-words (guard-and g e) ≡ expression-words e ++ guardWords g
+pub guarded-words : (g : Guard) (e : Expr) → expression-words (guard-and g e) ≡ expression-words e ++ guard-words g
 guarded-words unguarded e = sym (append-nil (expression-words e))
 guarded-words (guard x) e = refl
 
-pub below-is : (m : ℕ) → below m ≡ m - 1
-below-is zero = refl
-below-is (suc m) = omega arith
-
-one-or-more : (k : ℕ) → atLeastOne k ≡ suc (below k)
-unfolding atLeastOne
+one-or-more : (k : ℕ) → at-least-one k ≡ suc (below k)
+unfolding at-least-one
 one-or-more zero = pick-true _ _ refl
 one-or-more (suc k) = pick-false _ _ (ne-eqb (suc k) 0 (λ (z : suc k ≡ 0). omega arith))
 
@@ -40,21 +39,21 @@ pub delays-count : (g : Guard) (d n : ℕ) (e : Expr) → length (delays g d n e
 delays-count g zero n e = refl
 delays-count g (suc d) n e = ap suc (delays-count g d (suc n) (guard-and g (r· n)))
 
-pub delays-words : (g : Guard) (d n : ℕ) (e : Expr) → expression-words (delays g (suc d) n e .cur) ≡ registerWord (n + d) ∷ guardWords g
+pub delays-words : (g : Guard) (d n : ℕ) (e : Expr) → expression-words (delays g (suc d) n e .cur) ≡ register-word (n + d) ∷ guard-words g
 delays-words g zero n e = rw (add-zero n) (guarded-words g (r· n))
 delays-words g (suc d) n e = let w : n + suc d ≡ suc n + d = omega arith in rw w (delays-words g d (suc n) (guard-and g (r· n)))
 
 -- Hops.
-pub hop-count : (g : Guard) (h : SeqHop) (n : ℕ) (e : Expr) → length (hop-over g h n e .stores) ≡ hopRegisters h
-unfolding hopRegisters
+pub hop-count : (g : Guard) (h : SeqHop) (n : ℕ) (e : Expr) → length (hop-over g h n e .stores) ≡ hop-registers h
+unfolding hop-registers
 hop-count g (Fixed d) n e = delays-count g d n e
 hop-count g (AtLeast zero) n e = sym (one-or-more zero)
 hop-count g (AtLeast (suc m)) n e =
     let o = delays unguarded m n e in
     length-append (o .stores) (latch (n + length (o .stores)) (o .cur) .stores) ∙ omega (arith, delays-count unguarded m n e, one-or-more (suc m))
 
-pub hop-words : (g : Guard) (h : SeqHop) (n : ℕ) (e : Expr) → expression-words (hop-over g h n e .cur) ≡ hopText (guardWords g) n h (expression-words e)
-unfolding hopText hopKeeps hopPrefix hopSuffix hopBase pick
+pub hop-words : (g : Guard) (h : SeqHop) (n : ℕ) (e : Expr) → expression-words (hop-over g h n e .cur) ≡ hop-text (guard-words g) n h (expression-words e)
+unfolding hop-text hop-keeps hop-prefix hop-suffix hop-base pick
 hop-words g (Fixed zero) n e = sym (append-nil (expression-words e))
 hop-words g (Fixed (suc d)) n e =
     let w : n + suc d - 1 ≡ n + d = omega arith in
@@ -69,7 +68,7 @@ pub goto-count : (b k n : ℕ) (avail : Expr) → length (goto-stages b n k avai
 goto-count b zero n avail = refl
 goto-count b (suc k) n avail = ap suc (goto-count b k (suc n) (r· n))
 
-goto-words : (b k n : ℕ) (avail : Expr) → expression-words (goto-stages b n (suc k) avail .cur) ≡ atomWord b ∷ anyWord ∷ registerWord (n + k) ∷ andWord ∷ []
+goto-words : (b k n : ℕ) (avail : Expr) → expression-words (goto-stages b n (suc k) avail .cur) ≡ atom-word b ∷ any-word ∷ register-word (n + k) ∷ and-word ∷ []
 goto-words b zero n avail = rw (add-zero n) refl
 goto-words b (suc k) n avail = let w : n + suc k ≡ suc n + k = omega arith in rw w (goto-words b k (suc n) (r· n))
 
@@ -78,41 +77,41 @@ run-count b zero n prior = refl
 run-count b (suc k) n prior = ap suc (run-count b k (suc n) (r· n))
 
 run-words : (b k n : ℕ) (prior : Expr)
-    → expression-words (run-stages b (suc k) n prior .cur) ≡ registerWord (n + k) ∷ registerWord (n + suc k) ∷ orWord ∷ atomWord b ∷ anyWord ∷ andWord ∷ []
+    → expression-words (run-stages b (suc k) n prior .cur) ≡ register-word (n + k) ∷ register-word (n + suc k) ∷ or-word ∷ atom-word b ∷ any-word ∷ and-word ∷ []
 run-words b zero n prior = let w : n + 1 ≡ suc n = omega arith in rw (add-zero n, w) refl
 run-words b (suc k) n prior =
     let w : n + suc k ≡ suc n + k = omega arith in
     let v : n + suc (suc k) ≡ suc n + suc k = omega arith in
     rw (w, v) (run-words b k (suc n) (r· n))
 
-pub goto-fsm-count : (b k n : ℕ) (act : Expr) → length (goto-fsm b k n act .stores) ≡ atLeastOne k
+pub goto-fsm-count : (b k n : ℕ) (act : Expr) → length (goto-fsm b k n act .stores) ≡ at-least-one k
 goto-fsm-count b k n act = ap suc (goto-count b (below k) (suc n) (or· (r· n) act)) ∙ sym (one-or-more k)
 
-goto-fsm-words : (b k n : ℕ) (act : Expr) → expression-words (goto-fsm b k n act .cur) ≡ termText n (Goto b k) (expression-words act)
-unfolding termText termKeeps termPrefix termSuffix termBase pick
-goto-fsm-words b zero n act = ap (λ (l : List ℕ). atomWord b ∷ anyWord ∷ registerWord n ∷ l) (append-assoc (expression-words act) (orWord ∷ []) (andWord ∷ []))
-goto-fsm-words b (suc zero) n act = ap (λ (l : List ℕ). atomWord b ∷ anyWord ∷ registerWord n ∷ l) (append-assoc (expression-words act) (orWord ∷ []) (andWord ∷ []))
+goto-fsm-words : (b k n : ℕ) (act : Expr) → expression-words (goto-fsm b k n act .cur) ≡ term-text n (Goto b k) (expression-words act)
+unfolding term-text term-keeps term-prefix term-suffix term-base pick
+goto-fsm-words b zero n act = ap (λ (l : List ℕ). atom-word b ∷ any-word ∷ register-word n ∷ l) (append-assoc (expression-words act) (or-word ∷ []) (and-word ∷ []))
+goto-fsm-words b (suc zero) n act = ap (λ (l : List ℕ). atom-word b ∷ any-word ∷ register-word n ∷ l) (append-assoc (expression-words act) (or-word ∷ []) (and-word ∷ []))
 goto-fsm-words b (suc (suc k)) n act =
     let w : suc n + k ≡ n + suc (suc k) - 1 = omega arith in
     rw (le-ltb (suc (suc k)) 2 (omega arith), ← w) (goto-words b k (suc n) (or· (r· n) act))
 
 -- A nonconsecutive match is a goto's with its extension behind.
-pub nonconsec-text : (n b k : ℕ) (A : List ℕ) → termText n (Nonconsec b k) A ≡ termText n (Goto b k) A ++ extensionWords b (n + atLeastOne k)
-unfolding termText termKeeps termPrefix termSuffix termBase pick
+pub nonconsec-text : (n b k : ℕ) (A : List ℕ) → term-text n (Nonconsec b k) A ≡ term-text n (Goto b k) A ++ extension-words b (n + at-least-one k)
+unfolding term-text term-keeps term-prefix term-suffix term-base pick
 nonconsec-text n b zero A =
-    rw (one-or-more zero) (ap (λ (l : List ℕ). atomWord b ∷ anyWord ∷ registerWord n ∷ l) (sym (append-assoc A (orWord ∷ andWord ∷ []) (extensionWords b (n + 1)))))
+    rw (one-or-more zero) (ap (λ (l : List ℕ). atom-word b ∷ any-word ∷ register-word n ∷ l) (sym (append-assoc A (or-word ∷ and-word ∷ []) (extension-words b (n + 1)))))
 nonconsec-text n b (suc zero) A =
-    rw (one-or-more 1) (ap (λ (l : List ℕ). atomWord b ∷ anyWord ∷ registerWord n ∷ l) (sym (append-assoc A (orWord ∷ andWord ∷ []) (extensionWords b (n + 1)))))
+    rw (one-or-more 1) (ap (λ (l : List ℕ). atom-word b ∷ any-word ∷ register-word n ∷ l) (sym (append-assoc A (or-word ∷ and-word ∷ []) (extension-words b (n + 1)))))
 nonconsec-text n b (suc (suc k)) A = rw (one-or-more (suc (suc k)), le-ltb (suc (suc k)) 2 (omega arith)) refl
 
-nonconsec-fsm-words : (b k n : ℕ) (act : Expr) → expression-words (nonconsec-fsm b k n act .cur) ≡ termText n (Nonconsec b k) (expression-words act)
+nonconsec-fsm-words : (b k n : ℕ) (act : Expr) → expression-words (nonconsec-fsm b k n act .cur) ≡ term-text n (Nonconsec b k) (expression-words act)
 nonconsec-fsm-words b k n act =
-    ap₂ (λ (l : List ℕ) (m : ℕ). l ++ extensionWords b (n + m)) (goto-fsm-words b k n act) (goto-fsm-count b k n act) ∙ sym (nonconsec-text n b k (expression-words act))
+    ap₂ (λ (l : List ℕ) (m : ℕ). l ++ extension-words b (n + m)) (goto-fsm-words b k n act) (goto-fsm-count b k n act) ∙ sym (nonconsec-text n b k (expression-words act))
 
-run-fsm-words : (b k n : ℕ) (act : Expr) → expression-words (consec-run-fsm b k n act .cur) ≡ termText n (ConsecAtLeast b k) (expression-words act)
-unfolding termText termKeeps termPrefix termSuffix termBase pick
-run-fsm-words b zero n act = append-assoc (expression-words act) (registerWord n ∷ orWord ∷ []) (atomWord b ∷ anyWord ∷ andWord ∷ [])
-run-fsm-words b (suc zero) n act = append-assoc (expression-words act) (registerWord n ∷ orWord ∷ []) (atomWord b ∷ anyWord ∷ andWord ∷ [])
+run-fsm-words : (b k n : ℕ) (act : Expr) → expression-words (consec-run-fsm b k n act .cur) ≡ term-text n (ConsecAtLeast b k) (expression-words act)
+unfolding term-text term-keeps term-prefix term-suffix term-base pick
+run-fsm-words b zero n act = append-assoc (expression-words act) (register-word n ∷ or-word ∷ []) (atom-word b ∷ any-word ∷ and-word ∷ [])
+run-fsm-words b (suc zero) n act = append-assoc (expression-words act) (register-word n ∷ or-word ∷ []) (atom-word b ∷ any-word ∷ and-word ∷ [])
 run-fsm-words b (suc (suc k)) n act =
     let w : n + k ≡ n + suc (suc k) - 2 = omega arith in
     let v : n + suc k ≡ n + suc (suc k) - 1 = omega arith in
@@ -126,8 +125,8 @@ take-term (Nonconsec b k) n act = apply-term (Nonconsec b k) n act
 take-term (ConsecAtLeast b k) n act = apply-term (ConsecAtLeast b k) n act
 take-term Empty n act = synth [] act
 
-pub term-count : (x : SeqTerm) (n : ℕ) (act : Expr) → length (take-term x n act .stores) ≡ termRegisters x
-unfolding termRegisters
+pub term-count : (x : SeqTerm) (n : ℕ) (act : Expr) → length (take-term x n act .stores) ≡ term-registers x
+unfolding term-registers
 term-count (BoolTerm a) n act = refl
 term-count (Goto b k) n act = goto-fsm-count b k n act
 term-count (Nonconsec b k) n act =
@@ -136,8 +135,8 @@ term-count (Nonconsec b k) n act =
 term-count (ConsecAtLeast b k) n act = run-count b (below k) n act ∙ sym (one-or-more k)
 term-count Empty n act = refl
 
-pub term-words : (x : SeqTerm) (n : ℕ) (act : Expr) → expression-words (take-term x n act .cur) ≡ termText n x (expression-words act)
-unfolding termText termKeeps termPrefix termSuffix pick
+pub term-words : (x : SeqTerm) (n : ℕ) (act : Expr) → expression-words (take-term x n act .cur) ≡ term-text n x (expression-words act)
+unfolding term-text term-keeps term-prefix term-suffix pick
 term-words (BoolTerm a) n act = refl
 term-words (Goto b k) n act = goto-fsm-words b k n act
 term-words (Nonconsec b k) n act = nonconsec-fsm-words b k n act
@@ -148,41 +147,41 @@ term-words Empty n act = sym (append-nil (expression-words act))
 nothing-more : (o : Synth) → o ≡ synth (o .stores ++ []) (o .cur)
 nothing-more o = ap (λ (l : List Store). synth l (o .cur)) (sym (append-nil (o .stores)))
 
-pub later-parts : (g : Guard) (x : SeqTerm) (h : SeqHop) (n : ℕ) (e : Expr) → later g x h n e ≡ andThen n (hop-over g (reach (step x h)) n e) (take-term x)
-unfolding reach beforeEmpty pick
+pub later-parts : (g : Guard) (x : SeqTerm) (h : SeqHop) (n : ℕ) (e : Expr) → later g x h n e ≡ chained n (hop-over g (reach (step x h)) n e) (take-term x)
+unfolding reach before-empty pick
 later-parts g (BoolTerm a) h n e = refl
 later-parts g (Goto b k) h n e = refl
 later-parts g (Nonconsec b k) h n e = refl
 later-parts g (ConsecAtLeast b k) h n e = refl
-later-parts g Empty (Fixed d) n e = ap (λ (m : ℕ). delays g m n e) (below-is d) ∙ nothing-more (delays g (d - 1) n e)
+later-parts g Empty (Fixed d) n e = ap (λ (m : ℕ). delays g m n e) (below-is-one-less d) ∙ nothing-more (delays g (d - 1) n e)
 later-parts g Empty (AtLeast m) n e = nothing-more (synth [] e)
 
 module _ (g : Guard) (s : SeqStep) (n : ℕ) (e : Expr) where
-  pub later-count : length (later g (s .term) (s .hop) n e .stores) ≡ stepRegisters s
-  unfolding stepRegisters
+  pub later-count : length (later g (s .term) (s .hop) n e .stores) ≡ step-registers s
+  unfolding step-registers
   later-count =
       ap (λ (o : Synth). length (o .stores)) (later-parts g (s .term) (s .hop) n e)
       ∙ length-append (hop-over g (reach s) n e .stores) (take-term (s .term) (n + length (hop-over g (reach s) n e .stores)) (hop-over g (reach s) n e .cur) .stores)
       ∙ ap₂ (λ (x y : ℕ). x + y) (hop-count g (reach s) n e) (term-count (s .term) (n + length (hop-over g (reach s) n e .stores)) (hop-over g (reach s) n e .cur))
 
-  pub later-words : expression-words (later g (s .term) (s .hop) n e .cur) ≡ stepText (guardWords g) n s (expression-words e)
-  unfolding stepText
+  pub later-words : expression-words (later g (s .term) (s .hop) n e .cur) ≡ step-text (guard-words g) n s (expression-words e)
+  unfolding step-text
   later-words =
       ap (λ (o : Synth). expression-words (o .cur)) (later-parts g (s .term) (s .hop) n e)
       ∙ term-words (s .term) (n + length (hop-over g (reach s) n e .stores)) (hop-over g (reach s) n e .cur)
-      ∙ ap₂ (λ (z : ℕ) (l : List ℕ). termText (n + z) (s .term) l) (hop-count g (reach s) n e) (hop-words g (reach s) n e)
+      ∙ ap₂ (λ (z : ℕ) (l : List ℕ). term-text (n + z) (s .term) l) (hop-count g (reach s) n e) (hop-words g (reach s) n e)
 
 -- The first term, with the guard.
-pub seed-count : (x : SeqTerm) (n : ℕ) → length (seed x n .stores) ≡ termRegisters x
-unfolding termRegisters
+pub seed-count : (x : SeqTerm) (n : ℕ) → length (seed x n .stores) ≡ term-registers x
+unfolding term-registers
 seed-count (BoolTerm a) n = refl
 seed-count (Goto b k) n = term-count (Goto b k) n one·
 seed-count (Nonconsec b k) n = term-count (Nonconsec b k) n one·
 seed-count (ConsecAtLeast b k) n = term-count (ConsecAtLeast b k) n one·
 seed-count Empty n = refl
 
-seed-words : (x : SeqTerm) (n : ℕ) → expression-words (seed x n .cur) ≡ leadText n x
-unfolding leadText
+seed-words : (x : SeqTerm) (n : ℕ) → expression-words (seed x n .cur) ≡ lead-text n x
+unfolding lead-text
 seed-words (BoolTerm a) n = refl
 seed-words (Goto b k) n = term-words (Goto b k) n one·
 seed-words (Nonconsec b k) n = term-words (Nonconsec b k) n one·
@@ -190,74 +189,74 @@ seed-words (ConsecAtLeast b k) n = term-words (ConsecAtLeast b k) n one·
 seed-words Empty n = refl
 
 -- All steps of an alternative whose first register is n, stored in ts.
-pub register-next : (ts : List ℕ) (n k : ℕ) → n + registersBefore ts (suc k) ≡ n + registersBefore ts k + registersAt ts k
-unfolding registersBefore
+pub register-next : (ts : List ℕ) (n k : ℕ) → n + registers-before ts (suc k) ≡ n + registers-before ts k + registers-at ts k
+unfolding registers-before
 register-next ts n k = omega arith
 
-pub text-next : (ts G : List ℕ) (n k : ℕ) → textAt ts G (suc k) (n + registersBefore ts (suc k)) ≡ stepText G (n + registersBefore ts (suc k)) (nthStep ts (suc k)) (textAt ts G k (n + registersBefore ts k))
-unfolding textAt
+pub text-next : (ts G : List ℕ) (n k : ℕ) → text-at ts G (suc k) (n + registers-before ts (suc k)) ≡ step-text G (n + registers-before ts (suc k)) (nth-step ts (suc k)) (text-at ts G k (n + registers-before ts k))
+unfolding text-at
 text-next ts G n k =
-    let e : n + registersBefore ts (suc k) - registersAt ts k ≡ n + registersBefore ts k = omega (arith, register-next ts n k) in
+    let e : n + registers-before ts (suc k) - registers-at ts k ≡ n + registers-before ts k = omega (arith, register-next ts n k) in
     rw e refl
 
 module _ (ts : List ℕ) (g : Guard) (n : ℕ) where
-  abbrev textAfter : ℕ → List ℕ
-  textAfter k = textAt ts (guardWords g) k (n + registersBefore ts k)
+  abbrev text-after : ℕ → List ℕ
+  text-after k = text-at ts (guard-words g) k (n + registers-before ts k)
 
   -- The step k + 1 from the text after step k.
-  pub step-words : (k : ℕ) (s : SeqStep) (e : Expr) → nthStep ts (suc k) ≡ s → expression-words e ≡ textAfter k
-      → expression-words (later g (s .term) (s .hop) (n + registersBefore ts (suc k)) e .cur) ≡ textAfter (suc k)
-  step-words k s e i w = later-words g s (n + registersBefore ts (suc k)) e ∙ rw (w, ← i) (sym (text-next ts (guardWords g) n k))
+  pub the-words-of-a-step : (k : ℕ) (s : SeqStep) (e : Expr) → nth-step ts (suc k) ≡ s → expression-words e ≡ text-after k
+      → expression-words (later g (s .term) (s .hop) (n + registers-before ts (suc k)) e .cur) ≡ text-after (suc k)
+  the-words-of-a-step k s e i w = later-words g s (n + registers-before ts (suc k)) e ∙ rw (w, ← i) (sym (text-next ts (guard-words g) n k))
 
-  pub step-count : (k : ℕ) (s : SeqStep) (e : Expr) → nthStep ts (suc k) ≡ s
-      → n + registersBefore ts (suc k) + length (later g (s .term) (s .hop) (n + registersBefore ts (suc k)) e .stores) ≡ n + registersBefore ts (suc (suc k))
-  unfolding registersBefore registersAt
-  step-count k s e i = rw (later-count g s (n + registersBefore ts (suc k)) e, i) (omega arith)
+  pub step-count : (k : ℕ) (s : SeqStep) (e : Expr) → nth-step ts (suc k) ≡ s
+      → n + registers-before ts (suc k) + length (later g (s .term) (s .hop) (n + registers-before ts (suc k)) e .stores) ≡ n + registers-before ts (suc (suc k))
+  unfolding registers-before registers-at
+  step-count k s e i = rw (later-count g s (n + registers-before ts (suc k)) e, i) (omega arith)
 
-  laters-words : (ss : List SeqStep) (k : ℕ) (e : Expr) → Stored ts (suc k) ss → expression-words e ≡ textAfter k
-      → expression-words (laters g ss (n + registersBefore ts (suc k)) e .cur) ≡ textAfter (k + length ss)
+  laters-words : (ss : List SeqStep) (k : ℕ) (e : Expr) → Stored ts (suc k) ss → expression-words e ≡ text-after k
+      → expression-words (laters g ss (n + registers-before ts (suc k)) e .cur) ≡ text-after (k + length ss)
   laters-words [] k e S w = rw (add-zero k) w
   laters-words (s ∷ ss) k e S w =
-      let o = later g (s .term) (s .hop) (n + registersBefore ts (suc k)) e in
+      let o = later g (s .term) (s .hop) (n + registers-before ts (suc k)) e in
       let l : k + suc (length ss) ≡ suc k + length ss = omega arith in
-      rw (l, step-count k s e (S .0)) (laters-words ss (suc k) (o .cur) (S .1) (step-words k s e (S .0) w))
+      rw (l, step-count k s e (S .0)) (laters-words ss (suc k) (o .cur) (S .1) (the-words-of-a-step k s e (S .0) w))
 
   laters-count : (ss : List SeqStep) (k : ℕ) (e : Expr) → Stored ts (suc k) ss
-      → registersBefore ts (suc k) + length (laters g ss (n + registersBefore ts (suc k)) e .stores) ≡ registersBefore ts (suc k + length ss)
+      → registers-before ts (suc k) + length (laters g ss (n + registers-before ts (suc k)) e .stores) ≡ registers-before ts (suc k + length ss)
   laters-count [] k e S = rw (add-zero (suc k)) (omega arith)
   laters-count (s ∷ ss) k e S =
-      let o = later g (s .term) (s .hop) (n + registersBefore ts (suc k)) e in
-      let p = laters g ss (n + registersBefore ts (suc k) + length (o .stores)) (o .cur) in
+      let o = later g (s .term) (s .hop) (n + registers-before ts (suc k)) e in
+      let p = laters g ss (n + registers-before ts (suc k) + length (o .stores)) (o .cur) in
       let l : suc k + suc (length ss) ≡ suc (suc k) + length ss = omega arith in
-      let q : registersBefore ts (suc (suc k)) + length (p .stores) ≡ registersBefore ts (suc (suc k) + length ss) = rw (step-count k s e (S .0)) (laters-count ss (suc k) (o .cur) (S .1)) in
+      let q : registers-before ts (suc (suc k)) + length (p .stores) ≡ registers-before ts (suc (suc k) + length ss) = rw (step-count k s e (S .0)) (laters-count ss (suc k) (o .cur) (S .1)) in
       rw l (omega (arith, q, length-append (o .stores) (p .stores), step-count k s e (S .0)))
 
   -- The first step.
-  module _ (s : SeqStep) (i : nthStep ts 0 ≡ s) where
-    pub first-words : expression-words (guard-and g (seed (s .term) n .cur)) ≡ textAfter 0
-    unfolding textAt registersBefore
+  module _ (s : SeqStep) (i : nth-step ts 0 ≡ s) where
+    pub first-words : expression-words (guard-and g (seed (s .term) n .cur)) ≡ text-after 0
+    unfolding text-at registers-before
     first-words =
         guarded-words g (seed (s .term) n .cur)
-        ∙ ap (λ (l : List ℕ). l ++ guardWords g) (seed-words (s .term) n ∙ ap₂ (λ (m : ℕ) (x : SeqStep). leadText m (x .term)) (sym (add-zero n)) (sym i))
+        ∙ ap (λ (l : List ℕ). l ++ guard-words g) (seed-words (s .term) n ∙ ap₂ (λ (m : ℕ) (x : SeqStep). lead-text m (x .term)) (sym (add-zero n)) (sym i))
 
-    pub first-count : n + length (seed (s .term) n .stores) ≡ n + registersBefore ts 1
-    unfolding registersBefore registersAt
+    pub first-count : n + length (seed (s .term) n .stores) ≡ n + registers-before ts 1
+    unfolding registers-before registers-at
     first-count = rw (seed-count (s .term) n, i) (omega arith)
 
 -- What `current` writes after the last step is the alternative's expression.
 pub the-current-expression-is-the-text : (ts : List ℕ) (g : Guard) (s : SeqStep) (ss : List SeqStep) (n : ℕ) → Stored ts 0 (s ∷ ss)
-    → expression-words (synth-seq-pipeline g (s ∷ ss) n .cur) ≡ textAt ts (guardWords g) (length ss) (n + registersBefore ts (length ss))
+    → expression-words (synth-seq-pipeline g (s ∷ ss) n .cur) ≡ text-at ts (guard-words g) (length ss) (n + registers-before ts (length ss))
 the-current-expression-is-the-text ts g s ss n S =
     let e = guard-and g (seed (s .term) n .cur) in
     rw (first-count ts g n s (S .0)) (laters-words ts g n ss 0 e (S .1) (first-words ts g n s (S .0)) ∙ rw (zero-add (length ss)) refl)
 
 -- The steps' registers are the alternative's stores.
 pub the-registers-are-counted : (ts : List ℕ) (g : Guard) (s : SeqStep) (ss : List SeqStep) (n : ℕ) → Stored ts 0 (s ∷ ss)
-    → length (synth-seq-pipeline g (s ∷ ss) n .stores) ≡ registersBefore ts (length (s ∷ ss))
+    → length (synth-seq-pipeline g (s ∷ ss) n .stores) ≡ registers-before ts (length (s ∷ ss))
 the-registers-are-counted ts g s ss n S =
     let o = seed (s .term) n in
     let e = guard-and g (o .cur) in
     let p = laters g ss (n + length (o .stores)) e in
-    let c : registersBefore ts 1 + length (p .stores) ≡ registersBefore ts (suc 0 + length ss) = rw (first-count ts g n s (S .0)) (laters-count ts g n ss 0 e (S .1)) in
+    let c : registers-before ts 1 + length (p .stores) ≡ registers-before ts (suc 0 + length ss) = rw (first-count ts g n s (S .0)) (laters-count ts g n ss 0 e (S .1)) in
     let l : suc 0 + length ss ≡ suc (length ss) = omega arith in
     rw (← l) (omega (arith, c, length-append (o .stores) (p .stores), first-count ts g n s (S .0)))

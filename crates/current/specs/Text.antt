@@ -1,16 +1,14 @@
 -- An alternative's current expression as words, said from its steps alone, so that code can write it and store no expression.
 -- A step's text is made by its hop, then by its term. Each keeps the text before it, between a prefix and a suffix, or begins anew.
 -- Example: `a ##2 b` ends in `r1 a1 any and`: the hop begins anew with its last register, and the term keeps `r1` and adds the rest.
-use mathlib.Core.Path.{_≡_}
 use mathlib.Core.Bool.{Bool, true}
 use mathlib.Core.List.{List, [], _∷_, _++_}
-use Prim.Native.Nat.{ℕ, zero, suc, _+_, _*_, _-_}
+use Prim.Native.Nat.{ℕ, zero, suc, _+_, _-_}
 use lib.Dec.{eqb, ltb}
 use Rattle.words.specs.Choice.{pick}
-use Rattle.term.specs.Steps.{stepAt}
-use Rattle.meaning.specs.Alternative.{Guard, unguarded, guard}
+use Rattle.term.specs.Steps.{nth-step}
 use Rattle.meaning.specs.Expression.{Tag}
-use Rattle.meaning.specs.Listing.{word, expression-words, store-operation}
+use Rattle.meaning.specs.Listing.{word, store-operation}
 use Rattle.meaning.specs.Refusals.{is-empty}
 use Rattle.meaning.specs.declared.SeqTerm.{SeqTerm}
 use Rattle.meaning.specs.declared.SeqTerm.the-variants.{Bool as BoolTerm, Goto, Nonconsec, ConsecAtLeast, Empty}
@@ -19,159 +17,145 @@ use Rattle.meaning.specs.declared.SeqHop.the-variants.{Fixed, AtLeast}
 use Rattle.meaning.specs.declared.SeqStep.{SeqStep}
 
 -- 01, The listing: "1 atom, 2 register, 3 zero, 4 one, 5 any (reduction OR), 6 not, 7 and, 8 or", then the stores.
-abbrev pub atomWord : ℕ → ℕ
-atomWord a = word 1 a
+abbrev pub atom-word : ℕ → ℕ
+atom-word a = word 1 a
 
-abbrev pub registerWord : ℕ → ℕ
-registerWord r = word 2 r
+abbrev pub register-word : ℕ → ℕ
+register-word r = word 2 r
 
-abbrev pub zeroWord : ℕ
-zeroWord = word 3 0
+abbrev pub zero-word : ℕ
+zero-word = word 3 0
 
-abbrev pub oneWord : ℕ
-oneWord = word 4 0
+abbrev pub one-word : ℕ
+one-word = word 4 0
 
-abbrev pub anyWord : ℕ
-anyWord = word 5 0
+abbrev pub any-word : ℕ
+any-word = word 5 0
 
-abbrev pub notWord : ℕ
-notWord = word 6 0
+abbrev pub not-word : ℕ
+not-word = word 6 0
 
-abbrev pub andWord : ℕ
-andWord = word 7 0
+abbrev pub and-word : ℕ
+and-word = word 7 0
 
-abbrev pub orWord : ℕ
-orWord = word 8 0
+abbrev pub or-word : ℕ
+or-word = word 8 0
 
-abbrev pub storeWord : Tag → ℕ → ℕ
-storeWord tag r = word (store-operation tag) r
-
--- The guard with its `and`, so that these words behind an expression guard it, and no words leave it as it is.
-abbrev pub guardWords : Guard → List ℕ
-guardWords unguarded = []
-guardWords (guard x) = expression-words x ++ (andWord ∷ [])
-
--- The k-th of the steps that are stored one after the other.
-abbrev pub nthStep : List ℕ → ℕ → SeqStep
-nthStep steps k = stepAt steps (k * 5)
-
--- These steps are stored, the first of them as the k-th.
-abbrev pub Stored : List ℕ → ℕ → List SeqStep → Type 0
-Stored steps k [] = Unit {0}
-Stored steps k (s ∷ ss) = (nthStep steps k ≡ s) × Stored steps (suc k) ss
+abbrev pub store-word : Tag → ℕ → ℕ
+store-word tag r = word (store-operation tag) r
 
 -- The hop that a later step takes: "Empty after a fixed d >= 1 takes d - 1 delays"; its other hops are refused with 12.
-unfoldable pub beforeEmpty : SeqHop → SeqHop
-beforeEmpty (Fixed d) = Fixed (d - 1)
-beforeEmpty (AtLeast m) = Fixed 0
+unfoldable pub before-empty : SeqHop → SeqHop
+before-empty (Fixed d) = Fixed (d - 1)
+before-empty (AtLeast m) = Fixed 0
 
 unfoldable pub reach : SeqStep → SeqHop
-reach s = pick (is-empty (s .term)) (beforeEmpty (s .hop)) (s .hop)
+reach s = pick (is-empty (s .term)) (before-empty (s .hop)) (s .hop)
 
 -- A machine's count of 0 is taken as 1, and an "at least 0" has its latch as an "at least 1" has.
-unfoldable pub atLeastOne : ℕ → ℕ
-atLeastOne n = pick (eqb n 0) 1 n
+unfoldable pub at-least-one : ℕ → ℕ
+at-least-one n = pick (eqb n 0) 1 n
 
 -- The registers of a hop, of a term, and of a later step.
-unfoldable pub hopRegisters : SeqHop → ℕ
-hopRegisters (Fixed d) = d
-hopRegisters (AtLeast m) = atLeastOne m
+unfoldable pub hop-registers : SeqHop → ℕ
+hop-registers (Fixed d) = d
+hop-registers (AtLeast m) = at-least-one m
 
-unfoldable pub termRegisters : SeqTerm → ℕ
-termRegisters (BoolTerm a) = 0
-termRegisters (Goto b k) = atLeastOne k
-termRegisters (Nonconsec b k) = atLeastOne k + 1
-termRegisters (ConsecAtLeast b k) = atLeastOne k
-termRegisters Empty = 0
+unfoldable pub term-registers : SeqTerm → ℕ
+term-registers (BoolTerm a) = 0
+term-registers (Goto b k) = at-least-one k
+term-registers (Nonconsec b k) = at-least-one k + 1
+term-registers (ConsecAtLeast b k) = at-least-one k
+term-registers Empty = 0
 
-unfoldable pub stepRegisters : SeqStep → ℕ
-stepRegisters s = hopRegisters (reach s) + termRegisters (s .term)
+unfoldable pub step-registers : SeqStep → ℕ
+step-registers s = hop-registers (reach s) + term-registers (s .term)
 
 -- The registers of the k-th step. The first step's hop is never taken.
-unfoldable pub registersAt : List ℕ → ℕ → ℕ
-registersAt steps zero = termRegisters (nthStep steps 0 .term)
-registersAt steps (suc k) = stepRegisters (nthStep steps (suc k))
+unfoldable pub registers-at : List ℕ → ℕ → ℕ
+registers-at steps zero = term-registers (nth-step steps 0 .term)
+registers-at steps (suc k) = step-registers (nth-step steps (suc k))
 
 -- .. of the steps before the k-th.
-unfoldable pub registersBefore : List ℕ → ℕ → ℕ
-registersBefore steps zero = 0
-registersBefore steps (suc k) = registersBefore steps k + registersAt steps k
+unfoldable pub registers-before : List ℕ → ℕ → ℕ
+registers-before steps zero = 0
+registers-before steps (suc k) = registers-before steps k + registers-at steps k
 
 -- Whether the text after a hop, or after a term, holds the text before it.
-unfoldable pub hopKeeps : SeqHop → Bool
-hopKeeps (Fixed d) = eqb d 0
-hopKeeps (AtLeast m) = eqb m 0
+unfoldable pub hop-keeps : SeqHop → Bool
+hop-keeps (Fixed d) = eqb d 0
+hop-keeps (AtLeast m) = eqb m 0
 
-unfoldable pub termKeeps : SeqTerm → Bool
-termKeeps (BoolTerm a) = true
-termKeeps (Goto b k) = ltb k 2
-termKeeps (Nonconsec b k) = ltb k 2
-termKeeps (ConsecAtLeast b k) = ltb k 2
-termKeeps Empty = true
+unfoldable pub term-keeps : SeqTerm → Bool
+term-keeps (BoolTerm a) = true
+term-keeps (Goto b k) = ltb k 2
+term-keeps (Nonconsec b k) = ltb k 2
+term-keeps (ConsecAtLeast b k) = ltb k 2
+term-keeps Empty = true
 
 -- Where it does: what stands in front of that text, and behind it. r is the first register of the hop, or of the term.
-unfoldable pub hopPrefix : ℕ → SeqHop → List ℕ
-hopPrefix r (Fixed d) = []
-hopPrefix r (AtLeast m) = registerWord r ∷ []
+unfoldable pub hop-prefix : ℕ → SeqHop → List ℕ
+hop-prefix r (Fixed d) = []
+hop-prefix r (AtLeast m) = register-word r ∷ []
 
-unfoldable pub hopSuffix : SeqHop → List ℕ
-hopSuffix (Fixed d) = []
-hopSuffix (AtLeast m) = orWord ∷ []
+unfoldable pub hop-suffix : SeqHop → List ℕ
+hop-suffix (Fixed d) = []
+hop-suffix (AtLeast m) = or-word ∷ []
 
 -- The end of a nonconsecutive match: "cur = match_g | (ext & ~b)", ext being register r.
-abbrev pub extensionWords : ℕ → ℕ → List ℕ
-extensionWords b r = registerWord r ∷ atomWord b ∷ anyWord ∷ notWord ∷ andWord ∷ orWord ∷ []
+abbrev pub extension-words : ℕ → ℕ → List ℕ
+extension-words b r = register-word r ∷ atom-word b ∷ any-word ∷ not-word ∷ and-word ∷ or-word ∷ []
 
-unfoldable pub termPrefix : ℕ → SeqTerm → List ℕ
-termPrefix r (BoolTerm a) = []
-termPrefix r (Goto b k) = atomWord b ∷ anyWord ∷ registerWord r ∷ []
-termPrefix r (Nonconsec b k) = atomWord b ∷ anyWord ∷ registerWord r ∷ []
-termPrefix r (ConsecAtLeast b k) = []
-termPrefix r Empty = []
+unfoldable pub term-prefix : ℕ → SeqTerm → List ℕ
+term-prefix r (BoolTerm a) = []
+term-prefix r (Goto b k) = atom-word b ∷ any-word ∷ register-word r ∷ []
+term-prefix r (Nonconsec b k) = atom-word b ∷ any-word ∷ register-word r ∷ []
+term-prefix r (ConsecAtLeast b k) = []
+term-prefix r Empty = []
 
-unfoldable pub termSuffix : ℕ → SeqTerm → List ℕ
-termSuffix r (BoolTerm a) = atomWord a ∷ anyWord ∷ andWord ∷ []
-termSuffix r (Goto b k) = orWord ∷ andWord ∷ []
-termSuffix r (Nonconsec b k) = orWord ∷ andWord ∷ extensionWords b (r + 1)
-termSuffix r (ConsecAtLeast b k) = registerWord r ∷ orWord ∷ atomWord b ∷ anyWord ∷ andWord ∷ []
-termSuffix r Empty = []
+unfoldable pub term-suffix : ℕ → SeqTerm → List ℕ
+term-suffix r (BoolTerm a) = atom-word a ∷ any-word ∷ and-word ∷ []
+term-suffix r (Goto b k) = or-word ∷ and-word ∷ []
+term-suffix r (Nonconsec b k) = or-word ∷ and-word ∷ extension-words b (r + 1)
+term-suffix r (ConsecAtLeast b k) = register-word r ∷ or-word ∷ atom-word b ∷ any-word ∷ and-word ∷ []
+term-suffix r Empty = []
 
 -- Where it does not: the whole text. Only a fixed hop's delays take the guard, whose words are G.
-unfoldable pub hopBase : List ℕ → ℕ → SeqHop → List ℕ
-hopBase G r (Fixed d) = registerWord (r + d - 1) ∷ G
-hopBase G r (AtLeast m) = registerWord (r + m - 1) ∷ []
+unfoldable pub hop-base : List ℕ → ℕ → SeqHop → List ℕ
+hop-base G r (Fixed d) = register-word (r + d - 1) ∷ G
+hop-base G r (AtLeast m) = register-word (r + m - 1) ∷ []
 
-unfoldable pub termBase : ℕ → SeqTerm → List ℕ
-termBase r (BoolTerm a) = []
-termBase r (Goto b k) = atomWord b ∷ anyWord ∷ registerWord (r + k - 1) ∷ andWord ∷ []
-termBase r (Nonconsec b k) = atomWord b ∷ anyWord ∷ registerWord (r + k - 1) ∷ andWord ∷ extensionWords b (r + k)
-termBase r (ConsecAtLeast b k) = registerWord (r + k - 2) ∷ registerWord (r + k - 1) ∷ orWord ∷ atomWord b ∷ anyWord ∷ andWord ∷ []
-termBase r Empty = []
+unfoldable pub term-base : ℕ → SeqTerm → List ℕ
+term-base r (BoolTerm a) = []
+term-base r (Goto b k) = atom-word b ∷ any-word ∷ register-word (r + k - 1) ∷ and-word ∷ []
+term-base r (Nonconsec b k) = atom-word b ∷ any-word ∷ register-word (r + k - 1) ∷ and-word ∷ extension-words b (r + k)
+term-base r (ConsecAtLeast b k) = register-word (r + k - 2) ∷ register-word (r + k - 1) ∷ or-word ∷ atom-word b ∷ any-word ∷ and-word ∷ []
+term-base r Empty = []
 
 -- The text after a hop, after a term, and after a later step, from the text before.
-unfoldable pub hopText : List ℕ → ℕ → SeqHop → List ℕ → List ℕ
-hopText G r h before = pick (hopKeeps h) (hopPrefix r h ++ (before ++ hopSuffix h)) (hopBase G r h)
+unfoldable pub hop-text : List ℕ → ℕ → SeqHop → List ℕ → List ℕ
+hop-text G r h before = pick (hop-keeps h) (hop-prefix r h ++ (before ++ hop-suffix h)) (hop-base G r h)
 
-unfoldable pub termText : ℕ → SeqTerm → List ℕ → List ℕ
-termText r x activation = pick (termKeeps x) (termPrefix r x ++ (activation ++ termSuffix r x)) (termBase r x)
+unfoldable pub term-text : ℕ → SeqTerm → List ℕ → List ℕ
+term-text r x activation = pick (term-keeps x) (term-prefix r x ++ (activation ++ term-suffix r x)) (term-base r x)
 
-unfoldable pub stepText : List ℕ → ℕ → SeqStep → List ℕ → List ℕ
-stepText G r s before = termText (r + hopRegisters (reach s)) (s .term) (hopText G r (reach s) before)
+unfoldable pub step-text : List ℕ → ℕ → SeqStep → List ℕ → List ℕ
+step-text G r s before = term-text (r + hop-registers (reach s)) (s .term) (hop-text G r (reach s) before)
 
 -- The first term: "a machine is activated at every tick".
-unfoldable pub leadText : ℕ → SeqTerm → List ℕ
-leadText r (BoolTerm a) = atomWord a ∷ anyWord ∷ []
-leadText r (Goto b k) = termText r (Goto b k) (oneWord ∷ [])
-leadText r (Nonconsec b k) = termText r (Nonconsec b k) (oneWord ∷ [])
-leadText r (ConsecAtLeast b k) = termText r (ConsecAtLeast b k) (oneWord ∷ [])
-leadText r Empty = zeroWord ∷ []
+unfoldable pub lead-text : ℕ → SeqTerm → List ℕ
+lead-text r (BoolTerm a) = atom-word a ∷ any-word ∷ []
+lead-text r (Goto b k) = term-text r (Goto b k) (one-word ∷ [])
+lead-text r (Nonconsec b k) = term-text r (Nonconsec b k) (one-word ∷ [])
+lead-text r (ConsecAtLeast b k) = term-text r (ConsecAtLeast b k) (one-word ∷ [])
+lead-text r Empty = zero-word ∷ []
 
 -- The text after the k-th step, whose first register is r. "Guards are ANDed to the seed and after each delay register."
-unfoldable pub textAt : List ℕ → List ℕ → ℕ → ℕ → List ℕ
-textAt steps G zero r = leadText r (nthStep steps 0 .term) ++ G
-textAt steps G (suc k) r = stepText G r (nthStep steps (suc k)) (textAt steps G k (r - registersAt steps k))
+unfoldable pub text-at : List ℕ → List ℕ → ℕ → ℕ → List ℕ
+text-at steps G zero r = lead-text r (nth-step steps 0 .term) ++ G
+text-at steps G (suc k) r = step-text G r (nth-step steps (suc k)) (text-at steps G k (r - registers-at steps k))
 
 -- What starts the k-th term: constant one at the first, else the text after its hop.
-unfoldable pub activationAt : List ℕ → List ℕ → ℕ → ℕ → List ℕ
-activationAt steps G zero r = oneWord ∷ []
-activationAt steps G (suc k) r = hopText G r (reach (nthStep steps (suc k))) (textAt steps G k (r - registersAt steps k))
+unfoldable pub activation-at : List ℕ → List ℕ → ℕ → ℕ → List ℕ
+activation-at steps G zero r = one-word ∷ []
+activation-at steps G (suc k) r = hop-text G r (reach (nth-step steps (suc k))) (text-at steps G k (r - registers-at steps k))

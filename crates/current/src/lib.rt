@@ -7,10 +7,10 @@ ghost use mathlib.Core.List.{[], _∷_, _++_};
 ghost use Prim.Native.Nat.{_+_, _*_, _-_, _≤_, _<_};
 ghost use lib.ListN.{length};
 ghost use Rattle.words.specs.Written.{Wrote};
-ghost use Rattle.term.specs.Steps.{termAtom};
+ghost use Rattle.term.specs.Steps.{term-atom, nth-step};
 ghost use Rattle.meaning.specs.Refusals.{is-empty};
-ghost use Rattle.current.specs.Text.{nthStep, beforeEmpty, «reach», atLeastOne, hopRegisters, termRegisters, stepRegisters, registersAt, hopKeeps, termKeeps, hopPrefix, hopSuffix, termPrefix, termSuffix, hopBase, termBase, termText, leadText, textAt, activationAt, oneWord};
-ghost use Rattle.current.specs.Walk.{stepPrefix, stepSuffix, stepBase, goesOn, baseText, suffixesAfter, textBefore, BeginsAnew, Piece, Ready, Tail};
+ghost use Rattle.current.specs.Text.{before-empty, «reach», at-least-one, hop-registers, term-registers, step-registers, registers-at, hop-keeps, term-keeps, hop-prefix, hop-suffix, term-prefix, term-suffix, hop-base, term-base, term-text, lead-text, text-at, activation-at, one-word};
+ghost use Rattle.current.specs.Walk.{step-prefix, step-suffix, step-base, goes-on, base-text, suffixes-after, text-before, BeginsAnew, Piece, Ready, Tail};
 
 // 01's operations, as words with argument 0.
 pub const ATOM: u32 = 16777216;
@@ -46,7 +46,7 @@ pub fn copied(s: &[u32], out: &mut [u32], at: usize) -> usize
 // The k-th step.
 pub fn step(steps: &[u32], k: usize) -> meaning::SeqStep
     requires { ⌜ (k * 5 + 5 ≤ length (now steps)) × (k < 65536) ⌝ }
-    ensures { λ r. ⌜ r ≡ nthStep (now (steps .entry)) k ⌝ }
+    ensures { λ r. ⌜ r ≡ nth-step (now (steps .entry)) k ⌝ }
 {
     term::load(steps, k * 5)
 }
@@ -76,7 +76,7 @@ fn one_less(d: u32) -> u32
 
 // The hop into an Empty: one delay less, and none for a hop that refusal 12 rules out.
 fn before_empty(h: meaning::SeqHop) -> meaning::SeqHop
-    ensures { λ r. ⌜ r ≡ beforeEmpty h ⌝ }
+    ensures { λ r. ⌜ r ≡ before-empty h ⌝ }
 {
     match h {
         meaning::SeqHop::Fixed(d) => meaning::SeqHop::Fixed(one_less(d)),
@@ -98,7 +98,7 @@ pub fn reach(s: meaning::SeqStep) -> meaning::SeqHop
 
 // A count of 0 is taken as 1.
 pub fn at_least_one(n: u32) -> u32
-    ensures { λ r. ⌜ r ≡ atLeastOne n ⌝ }
+    ensures { λ r. ⌜ r ≡ at-least-one n ⌝ }
 {
     if n == 0 {
         return 1;
@@ -108,7 +108,7 @@ pub fn at_least_one(n: u32) -> u32
 
 // In 64 bits: a hop and a term can both be near 2^32.
 pub fn hop_registers(h: meaning::SeqHop) -> u64
-    ensures { λ r. ⌜ r ≡ hopRegisters h ⌝ }
+    ensures { λ r. ⌜ r ≡ hop-registers h ⌝ }
     ensures small { λ r. ⌜ r ≤ 4294967295 ⌝ }
 {
     match h {
@@ -119,7 +119,7 @@ pub fn hop_registers(h: meaning::SeqHop) -> u64
 
 // The registers of a term: one a match or tick, and the extension of a nonconsecutive one.
 pub fn term_registers(x: meaning::SeqTerm) -> u64
-    ensures { λ r. ⌜ r ≡ termRegisters x ⌝ }
+    ensures { λ r. ⌜ r ≡ term-registers x ⌝ }
     ensures small { λ r. ⌜ r ≤ 4294967296 ⌝ }
 {
     match x {
@@ -134,7 +134,7 @@ pub fn term_registers(x: meaning::SeqTerm) -> u64
 // The registers of the k-th step; the first step's hop is never taken.
 pub fn registers_at(steps: &[u32], k: usize) -> u64
     requires { ⌜ (k * 5 + 5 ≤ length (now steps)) × (k < 65536) ⌝ }
-    ensures { λ r. ⌜ r ≡ registersAt (now (steps .entry)) k ⌝ }
+    ensures { λ r. ⌜ r ≡ registers-at (now (steps .entry)) k ⌝ }
     ensures small { λ r. ⌜ r ≤ 8589934591 ⌝ }
 {
     let s = step(steps, k);
@@ -149,8 +149,8 @@ pub fn registers_at(steps: &[u32], k: usize) -> u64
 
 // The first register of a later step's term, r being the step's own.
 pub fn term_register(s: meaning::SeqStep, r: u32) -> u32
-    requires { ⌜ r + stepRegisters s ≤ 65536 ⌝ }
-    ensures { λ q. ⌜ q ≡ r + hopRegisters (reach s) ⌝ }
+    requires { ⌜ r + step-registers s ≤ 65536 ⌝ }
+    ensures { λ q. ⌜ q ≡ r + hop-registers (reach s) ⌝ }
 {
     let h = reach(s);
     let q = hop_registers(h);
@@ -159,7 +159,7 @@ pub fn term_register(s: meaning::SeqStep, r: u32) -> u32
 
 // Whether the text after a hop holds the text before it.
 pub fn hop_keeps(h: meaning::SeqHop) -> bool
-    ensures { λ r. ⌜ r ≡ hopKeeps h ⌝ }
+    ensures { λ r. ⌜ r ≡ hop-keeps h ⌝ }
 {
     match h {
         meaning::SeqHop::Fixed(d) => d == 0,
@@ -169,7 +169,7 @@ pub fn hop_keeps(h: meaning::SeqHop) -> bool
 
 // Whether the text after a term holds its activation.
 pub fn term_keeps(x: meaning::SeqTerm) -> bool
-    ensures { λ r. ⌜ r ≡ termKeeps x ⌝ }
+    ensures { λ r. ⌜ r ≡ term-keeps x ⌝ }
 {
     match x {
         meaning::SeqTerm::Bool(_) => true,
@@ -182,8 +182,8 @@ pub fn term_keeps(x: meaning::SeqTerm) -> bool
 
 // What stands in front of the text that a hop keeps: the latch of an "at least 0".
 pub fn hop_prefix(h: meaning::SeqHop, r: u32, out: &mut [u32], at: usize) -> usize
-    requires { ⌜ (at + length (hopPrefix r h) ≤ length (now out)) × (r + hopRegisters h ≤ 65536) ⌝ }
-    ensures { λ p. ⌜ Wrote (now (out .entry)) (now (out .exit)) at p (hopPrefix r h) ⌝ }
+    requires { ⌜ (at + length (hop-prefix r h) ≤ length (now out)) × (r + hop-registers h ≤ 65536) ⌝ }
+    ensures { λ p. ⌜ Wrote (now (out .entry)) (now (out .exit)) at p (hop-prefix r h) ⌝ }
 {
     match h {
         meaning::SeqHop::Fixed(_) => at,
@@ -193,8 +193,8 @@ pub fn hop_prefix(h: meaning::SeqHop, r: u32, out: &mut [u32], at: usize) -> usi
 
 // What stands behind it.
 pub fn hop_suffix(h: meaning::SeqHop, out: &mut [u32], at: usize) -> usize
-    requires { ⌜ at + length (hopSuffix h) ≤ length (now out) ⌝ }
-    ensures { λ p. ⌜ Wrote (now (out .entry)) (now (out .exit)) at p (hopSuffix h) ⌝ }
+    requires { ⌜ at + length (hop-suffix h) ≤ length (now out) ⌝ }
+    ensures { λ p. ⌜ Wrote (now (out .entry)) (now (out .exit)) at p (hop-suffix h) ⌝ }
 {
     match h {
         meaning::SeqHop::Fixed(_) => at,
@@ -204,8 +204,8 @@ pub fn hop_suffix(h: meaning::SeqHop, out: &mut [u32], at: usize) -> usize
 
 // The text after a hop that begins anew: its last register, guarded after a fixed hop.
 pub fn hop_base(h: meaning::SeqHop, r: u32, guard: &[u32], out: &mut [u32], at: usize) -> usize
-    requires { ⌜ (at + length (hopBase (now guard) r h) ≤ length (now out)) × (r + hopRegisters h ≤ 65536) × (hopKeeps h ≡ false) ⌝ }
-    ensures { λ p. ⌜ Wrote (now (out .entry)) (now (out .exit)) at p (hopBase (now (guard .entry)) r h) ⌝ }
+    requires { ⌜ (at + length (hop-base (now guard) r h) ≤ length (now out)) × (r + hop-registers h ≤ 65536) × (hop-keeps h ≡ false) ⌝ }
+    ensures { λ p. ⌜ Wrote (now (out .entry)) (now (out .exit)) at p (hop-base (now (guard .entry)) r h) ⌝ }
 {
     match h {
         meaning::SeqHop::Fixed(d) => {
@@ -218,8 +218,8 @@ pub fn hop_base(h: meaning::SeqHop, r: u32, guard: &[u32], out: &mut [u32], at: 
 
 // What stands in front of the activation that a term keeps.
 pub fn term_prefix(x: meaning::SeqTerm, r: u32, out: &mut [u32], at: usize) -> usize
-    requires { ⌜ (at + length (termPrefix r x) ≤ length (now out)) × (r + termRegisters x ≤ 65536) × (termAtom x < 65536) ⌝ }
-    ensures { λ p. ⌜ Wrote (now (out .entry)) (now (out .exit)) at p (termPrefix r x) ⌝ }
+    requires { ⌜ (at + length (term-prefix r x) ≤ length (now out)) × (r + term-registers x ≤ 65536) × (term-atom x < 65536) ⌝ }
+    ensures { λ p. ⌜ Wrote (now (out .entry)) (now (out .exit)) at p (term-prefix r x) ⌝ }
 {
     match x {
         meaning::SeqTerm::Bool(_) => at,
@@ -232,8 +232,8 @@ pub fn term_prefix(x: meaning::SeqTerm, r: u32, out: &mut [u32], at: usize) -> u
 
 // What stands behind it.
 pub fn term_suffix(x: meaning::SeqTerm, r: u32, out: &mut [u32], at: usize) -> usize
-    requires { ⌜ (at + length (termSuffix r x) ≤ length (now out)) × (r + termRegisters x ≤ 65536) × (termAtom x < 65536) ⌝ }
-    ensures { λ p. ⌜ Wrote (now (out .entry)) (now (out .exit)) at p (termSuffix r x) ⌝ }
+    requires { ⌜ (at + length (term-suffix r x) ≤ length (now out)) × (r + term-registers x ≤ 65536) × (term-atom x < 65536) ⌝ }
+    ensures { λ p. ⌜ Wrote (now (out .entry)) (now (out .exit)) at p (term-suffix r x) ⌝ }
 {
     match x {
         meaning::SeqTerm::Bool(a) => copied(&[ATOM + a, ANY, AND], out, at),
@@ -254,8 +254,8 @@ pub fn term_suffix(x: meaning::SeqTerm, r: u32, out: &mut [u32], at: usize) -> u
 
 // The text after a machine of two registers or more, which begins anew.
 pub fn term_base(x: meaning::SeqTerm, r: u32, out: &mut [u32], at: usize) -> usize
-    requires { ⌜ (at + length (termBase r x) ≤ length (now out)) × (r + termRegisters x ≤ 65536) × (termAtom x < 65536) × (termKeeps x ≡ false) ⌝ }
-    ensures { λ p. ⌜ Wrote (now (out .entry)) (now (out .exit)) at p (termBase r x) ⌝ }
+    requires { ⌜ (at + length (term-base r x) ≤ length (now out)) × (r + term-registers x ≤ 65536) × (term-atom x < 65536) × (term-keeps x ≡ false) ⌝ }
+    ensures { λ p. ⌜ Wrote (now (out .entry)) (now (out .exit)) at p (term-base r x) ⌝ }
 {
     match x {
         meaning::SeqTerm::Bool(_) => at,
@@ -298,8 +298,8 @@ pub fn term_base(x: meaning::SeqTerm, r: u32, out: &mut [u32], at: usize) -> usi
 
 // A leading machine, activated by constant one.
 fn lead_machine(x: meaning::SeqTerm, r: u32, out: &mut [u32], at: usize) -> usize
-    requires { ⌜ (at + length (termText r x (oneWord ∷ [])) ≤ length (now out)) × (r + termRegisters x ≤ 65536) × (termAtom x < 65536) ⌝ }
-    ensures { λ p. ⌜ Wrote (now (out .entry)) (now (out .exit)) at p (termText r x (oneWord ∷ [])) ⌝ }
+    requires { ⌜ (at + length (term-text r x (one-word ∷ [])) ≤ length (now out)) × (r + term-registers x ≤ 65536) × (term-atom x < 65536) ⌝ }
+    ensures { λ p. ⌜ Wrote (now (out .entry)) (now (out .exit)) at p (term-text r x (one-word ∷ [])) ⌝ }
 {
     if term_keeps(x) {
         let a = term_prefix(x, r, out, at);
@@ -311,8 +311,8 @@ fn lead_machine(x: meaning::SeqTerm, r: u32, out: &mut [u32], at: usize) -> usiz
 
 // The first term.
 fn lead(x: meaning::SeqTerm, r: u32, out: &mut [u32], at: usize) -> usize
-    requires { ⌜ (at + length (leadText r x) ≤ length (now out)) × (r + termRegisters x ≤ 65536) × (termAtom x < 65536) ⌝ }
-    ensures { λ p. ⌜ Wrote (now (out .entry)) (now (out .exit)) at p (leadText r x) ⌝ }
+    requires { ⌜ (at + length (lead-text r x) ≤ length (now out)) × (r + term-registers x ≤ 65536) × (term-atom x < 65536) ⌝ }
+    ensures { λ p. ⌜ Wrote (now (out .entry)) (now (out .exit)) at p (lead-text r x) ⌝ }
 {
     match x {
         meaning::SeqTerm::Bool(a) => copied(&[ATOM + a, ANY], out, at),
@@ -325,8 +325,8 @@ fn lead(x: meaning::SeqTerm, r: u32, out: &mut [u32], at: usize) -> usize
 
 // The first step: its term, then the guard.
 fn first(x: meaning::SeqTerm, r: u32, guard: &[u32], out: &mut [u32], at: usize) -> usize
-    requires { ⌜ (at + length (leadText r x ++ now guard) ≤ length (now out)) × (r + termRegisters x ≤ 65536) × (termAtom x < 65536) ⌝ }
-    ensures { λ p. ⌜ Wrote (now (out .entry)) (now (out .exit)) at p (leadText r x ++ now (guard .entry)) ⌝ }
+    requires { ⌜ (at + length (lead-text r x ++ now guard) ≤ length (now out)) × (r + term-registers x ≤ 65536) × (term-atom x < 65536) ⌝ }
+    ensures { λ p. ⌜ Wrote (now (out .entry)) (now (out .exit)) at p (lead-text r x ++ now (guard .entry)) ⌝ }
 {
     let a = lead(x, r, out, at);
     copied(guard, out, a)
@@ -335,7 +335,7 @@ fn first(x: meaning::SeqTerm, r: u32, guard: &[u32], out: &mut [u32], at: usize)
 // Whether the text after the k-th step holds the text before it.
 fn goes_on(steps: &[u32], k: usize) -> bool
     requires { ⌜ (k * 5 + 5 ≤ length (now steps)) × (k < 65536) ⌝ }
-    ensures { λ r. ⌜ r ≡ goesOn (now (steps .entry)) k ⌝ }
+    ensures { λ r. ⌜ r ≡ goes-on (now (steps .entry)) k ⌝ }
 {
     if k == 0 {
         return false;
@@ -351,8 +351,8 @@ fn goes_on(steps: &[u32], k: usize) -> bool
 
 // A later step's prefix: its term's, then its hop's.
 fn step_prefix(s: meaning::SeqStep, r: u32, out: &mut [u32], at: usize) -> usize
-    requires { ⌜ (at + length (stepPrefix r s) ≤ length (now out)) × (r + stepRegisters s ≤ 65536) × (termAtom (s .term) < 65536) ⌝ }
-    ensures { λ p. ⌜ Wrote (now (out .entry)) (now (out .exit)) at p (stepPrefix r s) ⌝ }
+    requires { ⌜ (at + length (step-prefix r s) ≤ length (now out)) × (r + step-registers s ≤ 65536) × (term-atom (s .term) < 65536) ⌝ }
+    ensures { λ p. ⌜ Wrote (now (out .entry)) (now (out .exit)) at p (step-prefix r s) ⌝ }
 {
     let x = s.term;
     let h = reach(s);
@@ -363,8 +363,8 @@ fn step_prefix(s: meaning::SeqStep, r: u32, out: &mut [u32], at: usize) -> usize
 
 // Its suffix: its hop's, then its term's.
 fn step_suffix(s: meaning::SeqStep, r: u32, out: &mut [u32], at: usize) -> usize
-    requires { ⌜ (at + length (stepSuffix r s) ≤ length (now out)) × (r + stepRegisters s ≤ 65536) × (termAtom (s .term) < 65536) ⌝ }
-    ensures { λ p. ⌜ Wrote (now (out .entry)) (now (out .exit)) at p (stepSuffix r s) ⌝ }
+    requires { ⌜ (at + length (step-suffix r s) ≤ length (now out)) × (r + step-registers s ≤ 65536) × (term-atom (s .term) < 65536) ⌝ }
+    ensures { λ p. ⌜ Wrote (now (out .entry)) (now (out .exit)) at p (step-suffix r s) ⌝ }
 {
     let x = s.term;
     let h = reach(s);
@@ -375,8 +375,8 @@ fn step_suffix(s: meaning::SeqStep, r: u32, out: &mut [u32], at: usize) -> usize
 
 // A later step whose text begins anew, with its hop or with its term.
 fn step_base(s: meaning::SeqStep, r: u32, guard: &[u32], out: &mut [u32], at: usize) -> usize
-    requires { ⌜ (at + length (stepBase (now guard) r s) ≤ length (now out)) × (r + stepRegisters s ≤ 65536) × (termAtom (s .term) < 65536) × BeginsAnew s ⌝ }
-    ensures { λ p. ⌜ Wrote (now (out .entry)) (now (out .exit)) at p (stepBase (now (guard .entry)) r s) ⌝ }
+    requires { ⌜ (at + length (step-base (now guard) r s) ≤ length (now out)) × (r + step-registers s ≤ 65536) × (term-atom (s .term) < 65536) × BeginsAnew s ⌝ }
+    ensures { λ p. ⌜ Wrote (now (out .entry)) (now (out .exit)) at p (step-base (now (guard .entry)) r s) ⌝ }
 {
     let x = s.term;
     let h = reach(s);
@@ -391,8 +391,8 @@ fn step_base(s: meaning::SeqStep, r: u32, guard: &[u32], out: &mut [u32], at: us
 
 // The text after the k-th step where it does not hold the text before it.
 fn base(steps: &[u32], k: usize, r: u32, guard: &[u32], out: &mut [u32], at: usize) -> usize
-    requires { ⌜ Piece (now steps) k r × (goesOn (now steps) k ≡ false) × (at + length (baseText (now steps) (now guard) k r) ≤ length (now out)) ⌝ }
-    ensures { λ p. ⌜ Wrote (now (out .entry)) (now (out .exit)) at p (baseText (now (steps .entry)) (now (guard .entry)) k r) ⌝ }
+    requires { ⌜ Piece (now steps) k r × (goes-on (now steps) k ≡ false) × (at + length (base-text (now steps) (now guard) k r) ≤ length (now out)) ⌝ }
+    ensures { λ p. ⌜ Wrote (now (out .entry)) (now (out .exit)) at p (base-text (now (steps .entry)) (now (guard .entry)) k r) ⌝ }
 {
     let s = step(steps, k);
     let x = s.term;
@@ -404,8 +404,8 @@ fn base(steps: &[u32], k: usize, r: u32, guard: &[u32], out: &mut [u32], at: usi
 
 // The prefix of the k-th step.
 fn prefix(steps: &[u32], k: usize, r: u32, out: &mut [u32], at: usize) -> usize
-    requires { ⌜ Piece (now steps) k r × (0 < k) × (at + length (stepPrefix r (nthStep (now steps) k)) ≤ length (now out)) ⌝ }
-    ensures { λ p. ⌜ Wrote (now (out .entry)) (now (out .exit)) at p (stepPrefix r (nthStep (now (steps .entry)) k)) ⌝ }
+    requires { ⌜ Piece (now steps) k r × (0 < k) × (at + length (step-prefix r (nth-step (now steps) k)) ≤ length (now out)) ⌝ }
+    ensures { λ p. ⌜ Wrote (now (out .entry)) (now (out .exit)) at p (step-prefix r (nth-step (now (steps .entry)) k)) ⌝ }
 {
     let s = step(steps, k);
     step_prefix(s, r, out, at)
@@ -413,8 +413,8 @@ fn prefix(steps: &[u32], k: usize, r: u32, out: &mut [u32], at: usize) -> usize
 
 // The suffix of the k-th step.
 fn suffix(steps: &[u32], k: usize, r: u32, out: &mut [u32], at: usize) -> usize
-    requires { ⌜ Piece (now steps) k r × (0 < k) × (at + length (stepSuffix r (nthStep (now steps) k)) ≤ length (now out)) ⌝ }
-    ensures { λ p. ⌜ Wrote (now (out .entry)) (now (out .exit)) at p (stepSuffix r (nthStep (now (steps .entry)) k)) ⌝ }
+    requires { ⌜ Piece (now steps) k r × (0 < k) × (at + length (step-suffix r (nth-step (now steps) k)) ≤ length (now out)) ⌝ }
+    ensures { λ p. ⌜ Wrote (now (out .entry)) (now (out .exit)) at p (step-suffix r (nth-step (now (steps .entry)) k)) ⌝ }
 {
     let s = step(steps, k);
     step_suffix(s, r, out, at)
@@ -422,16 +422,16 @@ fn suffix(steps: &[u32], k: usize, r: u32, out: &mut [u32], at: usize) -> usize
 
 // The first register of the step after the k-th, whose own is r.
 pub fn register_after(steps: &[u32], k: usize, r: u32) -> u32
-    requires { ⌜ (k * 5 + 5 ≤ length (now steps)) × (k < 65536) × (r + registersAt (now steps) k ≤ 65536) ⌝ }
-    ensures { λ q. ⌜ q ≡ r + registersAt (now (steps .entry)) k ⌝ }
+    requires { ⌜ (k * 5 + 5 ≤ length (now steps)) × (k < 65536) × (r + registers-at (now steps) k ≤ 65536) ⌝ }
+    ensures { λ q. ⌜ q ≡ r + registers-at (now (steps .entry)) k ⌝ }
 {
     r + registers_at(steps, k) as u32
 }
 
 // The suffixes of the steps after the k-th, whose first register is n, up to the j-th.
 fn suffixes(steps: &[u32], k: usize, n: u32, j: usize, out: &mut [u32], at: usize) -> usize
-    requires { ⌜ Tail (now steps) k n j × (at + length (suffixesAfter (now steps) k n (j - k)) ≤ length (now out)) ⌝ }
-    ensures { λ p. ⌜ Wrote (now (out .entry)) (now (out .exit)) at p (suffixesAfter (now (steps .entry)) k n (j - k)) ⌝ }
+    requires { ⌜ Tail (now steps) k n j × (at + length (suffixes-after (now steps) k n (j - k)) ≤ length (now out)) ⌝ }
+    ensures { λ p. ⌜ Wrote (now (out .entry)) (now (out .exit)) at p (suffixes-after (now (steps .entry)) k n (j - k)) ⌝ }
 {
     let mut p = at;
     let mut i = k;
@@ -446,16 +446,16 @@ fn suffixes(steps: &[u32], k: usize, n: u32, j: usize, out: &mut [u32], at: usiz
 
 // The first register of the step before the k-th, whose own is r.
 fn register_before(steps: &[u32], k: usize, r: u32) -> u32
-    requires { ⌜ (k * 5 + 5 ≤ length (now steps)) × (k < 65536) × (0 < k) × (registersAt (now steps) (k - 1) ≤ r) ⌝ }
-    ensures { λ q. ⌜ q ≡ r - registersAt (now (steps .entry)) (k - 1) ⌝ }
+    requires { ⌜ (k * 5 + 5 ≤ length (now steps)) × (k < 65536) × (0 < k) × (registers-at (now steps) (k - 1) ≤ r) ⌝ }
+    ensures { λ q. ⌜ q ≡ r - registers-at (now (steps .entry)) (k - 1) ⌝ }
 {
     r - registers_at(steps, k - 1) as u32
 }
 
 // The text after the j-th step, whose first register is r: back to the last step that begins anew, and forth again.
 pub fn current(steps: &[u32], guard: &[u32], j: usize, r: u32, out: &mut [u32], at: usize) -> usize
-    requires { ⌜ Ready (now steps) j r × (at + length (textAt (now steps) (now guard) j r) ≤ length (now out)) ⌝ }
-    ensures { λ p. ⌜ Wrote (now (out .entry)) (now (out .exit)) at p (textAt (now (steps .entry)) (now (guard .entry)) j r) ⌝ }
+    requires { ⌜ Ready (now steps) j r × (at + length (text-at (now steps) (now guard) j r) ≤ length (now out)) ⌝ }
+    ensures { λ p. ⌜ Wrote (now (out .entry)) (now (out .exit)) at p (text-at (now (steps .entry)) (now (guard .entry)) j r) ⌝ }
 {
     let mut k = j;
     let mut n = r;
@@ -473,8 +473,8 @@ pub fn current(steps: &[u32], guard: &[u32], j: usize, r: u32, out: &mut [u32], 
 
 // The text before the k-th step, whose first register is r.
 pub fn before(steps: &[u32], guard: &[u32], k: usize, r: u32, out: &mut [u32], at: usize) -> usize
-    requires { ⌜ Ready (now steps) k r × (0 < k) × (at + length (textBefore (now steps) (now guard) k r) ≤ length (now out)) ⌝ }
-    ensures { λ p. ⌜ Wrote (now (out .entry)) (now (out .exit)) at p (textBefore (now (steps .entry)) (now (guard .entry)) k r) ⌝ }
+    requires { ⌜ Ready (now steps) k r × (0 < k) × (at + length (text-before (now steps) (now guard) k r) ≤ length (now out)) ⌝ }
+    ensures { λ p. ⌜ Wrote (now (out .entry)) (now (out .exit)) at p (text-before (now (steps .entry)) (now (guard .entry)) k r) ⌝ }
 {
     let n = register_before(steps, k, r);
     current(steps, guard, k - 1, n, out, at)
@@ -482,8 +482,8 @@ pub fn before(steps: &[u32], guard: &[u32], k: usize, r: u32, out: &mut [u32], a
 
 // The text after the k-th step's hop.
 fn reached(steps: &[u32], guard: &[u32], k: usize, r: u32, out: &mut [u32], at: usize) -> usize
-    requires { ⌜ Ready (now steps) k r × (0 < k) × (at + length (activationAt (now steps) (now guard) k r) ≤ length (now out)) ⌝ }
-    ensures { λ p. ⌜ Wrote (now (out .entry)) (now (out .exit)) at p (activationAt (now (steps .entry)) (now (guard .entry)) k r) ⌝ }
+    requires { ⌜ Ready (now steps) k r × (0 < k) × (at + length (activation-at (now steps) (now guard) k r) ≤ length (now out)) ⌝ }
+    ensures { λ p. ⌜ Wrote (now (out .entry)) (now (out .exit)) at p (activation-at (now (steps .entry)) (now (guard .entry)) k r) ⌝ }
 {
     let s = step(steps, k);
     let h = reach(s);
@@ -504,8 +504,8 @@ pub fn activation(
     out: &mut [u32],
     at: usize,
 ) -> usize
-    requires { ⌜ Ready (now steps) k r × (at + length (activationAt (now steps) (now guard) k r) ≤ length (now out)) ⌝ }
-    ensures { λ p. ⌜ Wrote (now (out .entry)) (now (out .exit)) at p (activationAt (now (steps .entry)) (now (guard .entry)) k r) ⌝ }
+    requires { ⌜ Ready (now steps) k r × (at + length (activation-at (now steps) (now guard) k r) ≤ length (now out)) ⌝ }
+    ensures { λ p. ⌜ Wrote (now (out .entry)) (now (out .exit)) at p (activation-at (now (steps .entry)) (now (guard .entry)) k r) ⌝ }
 {
     if k == 0 {
         return words::put(out, at, ONE);

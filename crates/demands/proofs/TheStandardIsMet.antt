@@ -25,7 +25,7 @@ use Rattle.meaning.proofs.Evaluation.{bit}
 use Rattle.meaning.proofs.ListingAnswer.{a-listed-table-passed-all}
 use Rattle.meaning.proofs.Demand3 as definitions
 use Rattle.lower.specs.Answers.{Lowers}
-use Rattle.lowered_text.proofs.Laws.{front-written}
+use Rattle.words.proofs.Laws.{front-written}
 use Rattle.demands.specs.Shipped.{RunsAsShipped, AMatchEnds, IsABit, MeetsTheStandard}
 
 -- One call of `lower` that answered with a listing.

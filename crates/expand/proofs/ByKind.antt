@@ -11,28 +11,22 @@ use borrow.Author.Tests.{lt-ltb, le-ltb, eq-eqb, ne-eqb, eqb-true, eqb-false, lt
 use Rattle.words.specs.Choice.{pick, pick-true, pick-false}
 use Rattle.meaning.specs.declared.Node.{Node}
 use Rattle.meaning.specs.declared.SeqTerm.the-variants.{Bool as BoolTerm, Goto, Nonconsec, ConsecAtLeast, Empty}
-use Rattle.meaning.specs.Tree.{finite, unbounded, Seq, atom, delay, consec, goto, nonconsec, throughout, within, Operand, boolean, operand, nodeAt, unlimited, maxOf, treeAt, nodes}
+use Rattle.meaning.specs.Tree.{finite, unbounded, Seq, delay, consec, goto, nonconsec, throughout, Operand, boolean, operand, node-at, unlimited, max-of, tree-at, nodes}
 use Rattle.meaning.specs.Alternative.{SeqAlt, single, join-hops, hops, consec-finite, over, consec-unbounded, guard-each, expand}
 use Rattle.meaning.specs.Lowerable.{WellFormed, FormedTable, IsBoolean, Walkable}
-use Rattle.meaning.proofs.Taken.{both-hold, second-taken, false-is-not-true}
-use Rattle.meaning.proofs.Ranges.{by-kind, a-formed-tree-is-ranged}
+use Rattle.words.proofs.Taken.{both-hold, second-taken, false-is-not-true}
+use Rattle.meaning.proofs.Ranges.{by-kind, finite-max, unbounded-max, a-formed-tree-is-ranged}
 use Rattle.meaning.proofs.Nodes.{at-atom, at-delay, at-consec, at-goto, at-nonconsec, at-throughout, at-within}
+use Rattle.meaning.proofs.Walks.{a-walkable-tree-is-bounded}
+use Rattle.meaning.proofs.Flags.{a-walkable-tree-has-alternatives}
 use Rattle.expand.proofs.Index.{length-with-empty, nth-unbounded, nth-finite-empty}
-use Rattle.expand.proofs.Every.{bounded, some-alternative}
 use Rattle.expand.specs.ByNumber.{alternatives-of, nth, empties, repeats, is-copies, single-count, single-term, OperandInside, Expandable}
 
--- What a maximum stands for.
-finite-max : {x : ℕ} → (x ≡ unlimited → ⊥) → maxOf x ≡ finite x
-finite-max e = pick-false _ _ (ne-eqb _ _ e)
-
-unbounded-max : {x : ℕ} → x ≡ unlimited → maxOf x ≡ unbounded
-unbounded-max e = pick-true _ _ (eq-eqb _ _ e)
-
 -- The operand of a goto, a nonconsecutive or a [*m:$] is an atom, and its first word is which.
-boolean-operand : (t : List ℕ) (m : ℕ) → FormedTable t → m < nodes t → IsBoolean (operand (treeAt t m))
-    → operand (treeAt t m) ≡ boolean (nodeAt t m .p)
+boolean-operand : (t : List ℕ) (m : ℕ) → FormedTable t → m < nodes t → IsBoolean (operand (tree-at t m))
+    → operand (tree-at t m) ≡ boolean (node-at t m .p)
 boolean-operand t m T i B =
-    by-kind (nodeAt t m .kind) (f .known)
+    by-kind (node-at t m .kind) (f .known)
     (λ e. ap operand (at-atom t m e))
     (λ e. absurd (rw (at-delay t m e (f .delay-left e) (f .delay-right e)) at B))
     (λ e. absurd (rw (at-consec t m e (f .consec-under e)) at B))
@@ -41,7 +35,7 @@ boolean-operand t m T i B =
     (λ e. absurd (rw (at-throughout t m e (f .throughout-under e)) at B))
     (λ e. absurd (rw (at-within t m e (f .within-one e) (f .within-two e)) at B))
   where
-    f : WellFormed m (nodeAt t m)
+    f : WellFormed m (node-at t m)
     f = T .each m i
 
 -- What the tests of `has_copies` say: a finite [*] that has copies.
@@ -75,30 +69,30 @@ module _ {t : List ℕ} {n : ℕ} (E : Expandable t n) where
   -- From 1 to 256 alternatives.
   pub some-alternatives : 0 < length (alternatives-of t n)
   unfolding alternatives-of
-  some-alternatives = some-alternative (E .room) (treeAt t n) (a-formed-tree-is-ranged t (E .formed) n (E .inside)) (E .walkable)
+  some-alternatives = a-walkable-tree-has-alternatives (E .room) (tree-at t n) (a-formed-tree-is-ranged t (E .formed) n (E .inside)) (E .walkable)
 
   pub few-alternatives : length (alternatives-of t n) ≤ 256
   unfolding alternatives-of
-  few-alternatives = bounded (treeAt t n) (E .walkable) .few
+  few-alternatives = a-walkable-tree-is-bounded (E .room) (tree-at t n) (E .walkable) .few
 
-  module _ {v : Node} (w : v ≡ nodeAt t n) where
+  module _ {v : Node} (w : v ≡ node-at t n) where
     -- 1 and 3, of the words as they were read and as they stand in the table.
     pub well-formed : WellFormed n v
     well-formed = rw w (E .formed .each n (E .inside))
 
-    abbrev f : WellFormed n (nodeAt t n)
+    abbrev f : WellFormed n (node-at t n)
     f = E .formed .each n (E .inside)
 
     -- A lower node that the walk let pass too.
-    lower : (m : ℕ) → m < n → Walkable (E .room) (treeAt t m) → Expandable t m
+    lower : (m : ℕ) → m < n → Walkable (E .room) (tree-at t m) → Expandable t m
     lower m l W = record { formed = E .formed; inside = omega (arith, E .inside); room = E .room; walkable = W }
 
     -- ---- delay
 
-    is-delay : v .kind ≡ 2 → treeAt t n ≡ delay n (treeAt t (v .p)) (treeAt t (v .q)) (v .min) (maxOf (v .max))
+    is-delay : v .kind ≡ 2 → tree-at t n ≡ delay n (tree-at t (v .p)) (tree-at t (v .q)) (v .min) (max-of (v .max))
     is-delay k = let e = rw w at k in at-delay t n e (f .delay-left e) (f .delay-right e) ∙ rw w refl
 
-    delay-walkable : v .kind ≡ 2 → Walkable (E .room) (treeAt t (v .p)) × Walkable (E .room) (treeAt t (v .q))
+    delay-walkable : v .kind ≡ 2 → Walkable (E .room) (tree-at t (v .p)) × Walkable (E .room) (tree-at t (v .q))
     unfolding Walkable
     delay-walkable k = let W = rw (is-delay k) at (E .walkable) in (W .0, W .1)
 
@@ -109,13 +103,13 @@ module _ {t : List ℕ} {n : ℕ} (E : Expandable t n) where
     right-expandable k = lower (v .q) (well-formed .delay-right k) (delay-walkable k .1)
 
     pub delay-alternatives : v .kind ≡ 2
-        → alternatives-of t n ≡ join-hops (hops (v .min) (maxOf (v .max))) (alternatives-of t (v .p)) (alternatives-of t (v .q))
+        → alternatives-of t n ≡ join-hops (hops (v .min) (max-of (v .max))) (alternatives-of t (v .p)) (alternatives-of t (v .q))
     unfolding alternatives-of
     delay-alternatives k = rw (is-delay k) refl
 
     -- ---- throughout
 
-    is-throughout : v .kind ≡ 6 → treeAt t n ≡ throughout n (v .p) (treeAt t (v .q))
+    is-throughout : v .kind ≡ 6 → tree-at t n ≡ throughout n (v .p) (tree-at t (v .q))
     is-throughout k = let e = rw w at k in at-throughout t n e (f .throughout-under e) ∙ rw w refl
 
     pub guarded-expandable : v .kind ≡ 6 → Expandable t (v .q)
@@ -128,14 +122,14 @@ module _ {t : List ℕ} {n : ℕ} (E : Expandable t n) where
 
     -- ---- consecutive
 
-    is-consec : v .kind ≡ 3 → treeAt t n ≡ consec n (treeAt t (v .p)) (v .min) (maxOf (v .max))
+    is-consec : v .kind ≡ 3 → tree-at t n ≡ consec n (tree-at t (v .p)) (v .min) (max-of (v .max))
     is-consec k = let e = rw w at k in at-consec t n e (f .consec-under e) ∙ rw w refl
 
-    is-finite : v .kind ≡ 3 → (v .max ≡ unlimited → ⊥) → treeAt t n ≡ consec n (treeAt t (v .p)) (v .min) (finite (v .max))
-    is-finite k l = is-consec k ∙ ap (consec n (treeAt t (v .p)) (v .min)) (finite-max l)
+    is-finite : v .kind ≡ 3 → (v .max ≡ unlimited → ⊥) → tree-at t n ≡ consec n (tree-at t (v .p)) (v .min) (finite (v .max))
+    is-finite k l = is-consec k ∙ ap (consec n (tree-at t (v .p)) (v .min)) (finite-max _ l)
 
-    is-unbounded : v .kind ≡ 3 → v .max ≡ unlimited → treeAt t n ≡ consec n (treeAt t (v .p)) (v .min) unbounded
-    is-unbounded k u = is-consec k ∙ ap (consec n (treeAt t (v .p)) (v .min)) (unbounded-max u)
+    is-unbounded : v .kind ≡ 3 → v .max ≡ unlimited → tree-at t n ≡ consec n (tree-at t (v .p)) (v .min) unbounded
+    is-unbounded k u = is-consec k ∙ ap (consec n (tree-at t (v .p)) (v .min)) (unbounded-max _ u)
 
     finite-alternatives : v .kind ≡ 3 → (v .max ≡ unlimited → ⊥)
         → alternatives-of t n ≡ consec-finite (alternatives-of t (v .p)) (v .min) (v .max)
@@ -144,9 +138,9 @@ module _ {t : List ℕ} {n : ℕ} (E : Expandable t n) where
 
     module _ (R : Repetition v) where
       -- What 5 and the walk say of a [*] that has copies, and its alternatives.
-      copies-walkable : Walkable (E .room) (treeAt t (v .p)) × (v .max ≤ 256)
+      copies-walkable : Walkable (E .room) (tree-at t (v .p)) × (v .max ≤ 256)
       copies-walkable =
-          walkable-copies (E .room) n (treeAt t (v .p)) (v .min) (v .max) (R .live) (rw (is-finite (R .kind) (R .limited)) at (E .walkable))
+          walkable-copies (E .room) n (tree-at t (v .p)) (v .min) (v .max) (R .live) (rw (is-finite (R .kind) (R .limited)) at (E .walkable))
 
       pub copied-expandable : Expandable t (v .p)
       copied-expandable = lower (v .p) (well-formed .consec-under (R .kind)) (copies-walkable .0)
@@ -163,29 +157,29 @@ module _ {t : List ℕ} {n : ℕ} (E : Expandable t n) where
     -- ---- the kinds over a Boolean
 
     -- What a term over the operand's Boolean gives.
-    over-operand : (g : ℕ → List SeqAlt) → v .p < n → IsBoolean (operand (treeAt t (v .p)))
-        → over (operand (treeAt t (v .p))) g ≡ g (nodeAt t (v .p) .p)
+    over-operand : (g : ℕ → List SeqAlt) → v .p < n → IsBoolean (operand (tree-at t (v .p)))
+        → over (operand (tree-at t (v .p))) g ≡ g (node-at t (v .p) .p)
     over-operand g l B = ap (λ (x : Operand). over x g) (boolean-operand t (v .p) (E .formed) (omega (arith, E .inside)) B)
 
-    unbounded-alternatives : v .kind ≡ 3 → v .max ≡ unlimited → alternatives-of t n ≡ consec-unbounded (v .min) (nodeAt t (v .p) .p)
+    unbounded-alternatives : v .kind ≡ 3 → v .max ≡ unlimited → alternatives-of t n ≡ consec-unbounded (v .min) (node-at t (v .p) .p)
     unfolding alternatives-of Walkable
     unbounded-alternatives k u =
         ap expand (is-unbounded k u)
         ∙ over-operand (consec-unbounded (v .min)) (well-formed .consec-under k) (let W = rw (is-unbounded k u) at (E .walkable) in W .1)
 
-    is-goto : v .kind ≡ 4 → treeAt t n ≡ goto n (treeAt t (v .p)) (v .min)
+    is-goto : v .kind ≡ 4 → tree-at t n ≡ goto n (tree-at t (v .p)) (v .min)
     is-goto k = let e = rw w at k in at-goto t n e (f .goto-under e) ∙ rw w refl
 
-    goto-alternatives : v .kind ≡ 4 → alternatives-of t n ≡ single (Goto (nodeAt t (v .p) .p) (v .min)) ∷ []
+    goto-alternatives : v .kind ≡ 4 → alternatives-of t n ≡ single (Goto (node-at t (v .p) .p) (v .min)) ∷ []
     unfolding alternatives-of Walkable
     goto-alternatives k =
         ap expand (is-goto k)
         ∙ over-operand (λ b. single (Goto b (v .min)) ∷ []) (well-formed .goto-under k) (let W = rw (is-goto k) at (E .walkable) in W .1)
 
-    is-nonconsec : v .kind ≡ 5 → treeAt t n ≡ nonconsec n (treeAt t (v .p)) (v .min)
+    is-nonconsec : v .kind ≡ 5 → tree-at t n ≡ nonconsec n (tree-at t (v .p)) (v .min)
     is-nonconsec k = let e = rw w at k in at-nonconsec t n e (f .nonconsec-under e) ∙ rw w refl
 
-    nonconsec-alternatives : v .kind ≡ 5 → alternatives-of t n ≡ single (Nonconsec (nodeAt t (v .p) .p) (v .min)) ∷ []
+    nonconsec-alternatives : v .kind ≡ 5 → alternatives-of t n ≡ single (Nonconsec (node-at t (v .p) .p) (v .min)) ∷ []
     unfolding alternatives-of Walkable
     nonconsec-alternatives k =
         ap expand (is-nonconsec k)
@@ -246,7 +240,7 @@ module _ {t : List ℕ} {n : ℕ} (E : Expandable t n) where
           (λ k. elim (ℕ-discrete (v .max) unlimited) [
             | yes u ↦ (
                 let e = unbounded-alternatives k u in
-                rw (k, e) (nth-unbounded (v .min) (nodeAt t (v .p) .p) i (rw e at h)))
+                rw (k, e) (nth-unbounded (v .min) (node-at t (v .p) .p) i (rw e at h)))
             | no l ↦ (
                 let e = before-copies i h c x k l in
                 rw (k, lt-ltb _ _ e, finite-alternatives k l)
@@ -281,7 +275,7 @@ module _ (t : List ℕ) (v : Node) where
   pub operand-read-few : OperandInside t v → (v .kind ≡ 1 → ⊥) → v .p < 4096
   operand-read-few O x = O .few x
 
-  module _ {b : Node} (i : ℕ) (x : v .kind ≡ 1 → ⊥) (r : b ≡ nodeAt t (v .p)) where
+  module _ {b : Node} (i : ℕ) (x : v .kind ≡ 1 → ⊥) (r : b ≡ node-at t (v .p)) where
     pub goto-term : v .kind ≡ 4 → Goto (b .p) (v .min) ≡ single-term t v i
     unfolding single-term pick
     goto-term k = rw (k, r) refl

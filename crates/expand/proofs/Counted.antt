@@ -10,7 +10,7 @@ use lib.Dec.{eqb}
 use lib.ListN.{length}
 use Rattle.words.specs.Choice.{pick, pick-case}
 use Rattle.meaning.specs.declared.Node.{Node}
-use Rattle.meaning.specs.Tree.{finite, unbounded, nodeAt, unlimited, maxOf}
+use Rattle.meaning.specs.Tree.{finite, unbounded, node-at, unlimited, max-of}
 use Rattle.meaning.specs.Alternative.{hops}
 use Rattle.meaning.proofs.Counting.{Tally, length-hops, throughout-tallied}
 use Rattle.expand.specs.ByNumber.{alternatives-of, hops-between, copies-count, copies-from-count, empties, repeats, single-count, Expandable}
@@ -19,7 +19,7 @@ use Rattle.expand.proofs.Index.{length-join-hops, length-copies-from, f
 use Rattle.expand.proofs.ByKind.{Repetition, some-alternatives, few-alternatives, well-formed, left-expandable, right-expandable, delay-alternatives, throughout-alternatives, copied-expandable, copies-in-order, repeated-alternatives, singles-counted}
 
 -- The hops counted by arithmetic are those of the definition.
-pub length-hops-between : (min max : ℕ) → length (hops min (maxOf max)) ≡ hops-between min max
+pub length-hops-between : (min max : ℕ) → length (hops min (max-of max)) ≡ hops-between min max
 unfolding hops-between pick
 length-hops-between min max = go (eqb max unlimited)
   where
@@ -32,7 +32,7 @@ some-hops : (min max : ℕ) → min ≤ max → 1 ≤ hops-between min max
 unfolding hops-between
 some-hops min max h = pick-case (λ (k : ℕ). 1 ≤ k) (eqb max unlimited) (λ e. omega arith) (λ e. omega arith)
 
-module _ {t : List ℕ} {n : ℕ} {v : Node} (E : Expandable t n) (w : v ≡ nodeAt t n) where
+module _ {t : List ℕ} {n : ℕ} {v : Node} (E : Expandable t n) (w : v ≡ node-at t n) where
   -- The measure u is the node number.
   pub left-lower : {u : ℕ} → n ≡ u → v .kind ≡ 2 → v .p < u
   left-lower e k = omega (arith, well-formed E w .delay-left k)
@@ -53,7 +53,7 @@ module _ {t : List ℕ} {n : ℕ} {v : Node} (E : Expandable t n) (w : v ≡ nod
       → length (alternatives-of t n) ≡ hops-between (v .min) (v .max) * (length (alternatives-of t (v .p)) * length (alternatives-of t (v .q)))
   delay-count k =
       ap length (delay-alternatives E w k)
-      ∙ length-join-hops (hops (v .min) (maxOf (v .max))) (alternatives-of t (v .p)) (alternatives-of t (v .q))
+      ∙ length-join-hops (hops (v .min) (max-of (v .max))) (alternatives-of t (v .p)) (alternatives-of t (v .q))
       ∙ ap (λ (z : ℕ). z * (length (alternatives-of t (v .p)) * length (alternatives-of t (v .q)))) (length-hops-between (v .min) (v .max))
 
   -- So no factor is above 256 ..

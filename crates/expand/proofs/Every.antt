@@ -1,24 +1,16 @@
--- What every alternative of every tree has: shown once for one term, for a join and for a guard, it holds of all. And a tree
--- that the walk let pass has from 1 to 256 alternatives.
-use mathlib.Core.Path.{ap}
+-- What every alternative of every tree has: shown once for one term, for a join and for a guard, it holds of all.
 use mathlib.Core.List.{List, [], _∷_, _++_}
-use Prim.Native.Nat.{ℕ, zero, suc, _+_, _*_, _-_, _<_, _≤_}
+use Prim.Native.Nat.{ℕ, zero, suc, _-_, _<_}
 use native.Mathlib.Omega.{arith}
-use native.Mathlib.Nat.{mul-le-mul, le-refl}
 use lib.ListN.{length, length-append}
 use Rattle.meaning.specs.declared.SeqTerm.{SeqTerm}
 use Rattle.meaning.specs.declared.SeqTerm.the-variants.{Bool as BoolTerm, Goto, Nonconsec, ConsecAtLeast, Empty}
 use Rattle.meaning.specs.declared.SeqHop.{SeqHop}
 use Rattle.meaning.specs.declared.SeqHop.the-variants.{Fixed}
-use Rattle.meaning.specs.Tree.{Max, finite, unbounded, Seq, atom, delay, consec, goto, nonconsec, throughout, within, Operand, boolean, other, operand, below}
-use Rattle.meaning.specs.Match.{UpTo}
+use Rattle.meaning.specs.Tree.{finite, unbounded, Seq, atom, delay, consec, goto, nonconsec, throughout, within, Operand, boolean, other, operand, below}
 use Rattle.meaning.specs.Expression.{a·, any}
 use Rattle.meaning.specs.Alternative.{guard, and-opt, SeqAlt, alternative, single, rehop, joined, join-rights, join-lefts, join-hops, hops, copies, copies-from, with-empty, consec-finite, over, consec-unbounded, guard-each, expand}
-use Rattle.meaning.specs.Lowerable.{IsBoolean, Bounded, Ranged, Walkable}
-use Rattle.meaning.proofs.Counting.{Tally, length-hops, throughout-tallied}
-use Rattle.expand.specs.ByNumber.{nth, copies-count}
-use Rattle.expand.proofs.Arithmetic.{first-block}
-use Rattle.expand.proofs.Index.{length-join-hops, length-copies-from}
+use Rattle.expand.specs.ByNumber.{nth}
 
 abbrev pub Each : (SeqAlt → Type 0) → List SeqAlt → Type 0
 Each P [] = Unit {0}
@@ -103,52 +95,3 @@ has-step = record {
   of-joined = λ h l r p q. omega (arith, length-append (l .steps) (rehop h (r .steps)));
   of-guarded = λ c y p. p;
 }
-
--- 10 and 11 at the node itself.
-pub bounded : {room : ℕ} (s : Seq) → Walkable room s → Bounded room (expand s)
-unfolding Walkable
-bounded (atom n a) W = W
-bounded (delay n l r m x) W = W .2
-bounded (consec n s m (finite zero)) W = W
-bounded (consec n s m (finite (suc x))) W = W .2
-bounded (consec n s m unbounded) W = W .2
-bounded (goto n s k) W = W .2
-bounded (nonconsec n s k) W = W .2
-bounded (throughout n c s) W = W .2
-bounded (within n s₁ s₂) W = absurd W
-
--- A range in order has a hop.
-hops-of-range : (m : ℕ) (x : Max) → UpTo m x → 1 ≤ length (hops m x)
-hops-of-range m (finite x) h = omega (arith, length-hops m (finite x))
-hops-of-range m unbounded h = omega arith
-
-copies-some : (a k : ℕ) → 1 ≤ a → 1 ≤ copies-count a k
-unfolding copies-count
-copies-some a zero h = h
-copies-some a (suc k) h = let b : 1 * 1 ≤ copies-count a k * a = mul-le-mul (copies-some a k h) h in omega arith
-
-over-some : (x : Operand) (f : ℕ → List SeqAlt) → IsBoolean x → ((b : ℕ) → 1 ≤ length (f b)) → 1 ≤ length (over x f)
-over-some (boolean b) f h F = F b
-over-some other f h F = absurd h
-
--- A tree in range that the walk let pass has an alternative.
-pub some-alternative : (room : ℕ) (s : Seq) → Ranged s → Walkable room s → 1 ≤ length (expand s)
-unfolding Ranged Walkable
-some-alternative room (atom n a) R W = omega arith
-some-alternative room (delay n l r m x) R W =
-    let p : 1 * 1 ≤ length (expand l) * length (expand r) = mul-le-mul (some-alternative room l (R .0) (W .0)) (some-alternative room r (R .1) (W .1)) in
-    let q : 1 * (length (expand l) * length (expand r)) ≤ length (hops m x) * (length (expand l) * length (expand r)) = mul-le-mul (hops-of-range m x (R .2)) (le-refl _) in
-    omega (arith, length-join-hops (hops m x) (expand l) (expand r))
-some-alternative room (consec n s m (finite zero)) R W = omega arith
-some-alternative room (consec n s zero (finite (suc x))) R W = omega arith
-some-alternative room (consec n s (suc m) (finite (suc x))) R W =
-    let a = length (expand s) in
-    omega (arith, length-copies-from (expand s) m (suc x - m), first-block a m (suc x - m) (omega (arith, R .1)), copies-some a m (some-alternative room s (R .0) (W .0)))
-some-alternative room (consec n s zero unbounded) R W = over-some (operand s) (consec-unbounded zero) (W .1) (λ b. omega arith)
-some-alternative room (consec n s (suc m) unbounded) R W =
-    over-some (operand s) (consec-unbounded (suc m)) (W .1) (λ b. omega arith)
-some-alternative room (goto n s k) R W = over-some (operand s) (λ b. single (Goto b k) ∷ []) (W .1) (λ b. omega arith)
-some-alternative room (nonconsec n s k) R W = over-some (operand s) (λ b. single (Nonconsec b k) ∷ []) (W .1) (λ b. omega arith)
-some-alternative room (throughout n c s) R W =
-    omega (arith, ap (λ (x : Tally). x .alternatives) (throughout-tallied c (expand s)), some-alternative room s (R .1) (W .0))
-some-alternative room (within n s₁ s₂) R W = absurd W

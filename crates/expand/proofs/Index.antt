@@ -5,11 +5,12 @@ use mathlib.Core.Bool.{Bool, true, false}
 use mathlib.Core.List.{List, [], _∷_, _++_}
 use Prim.Native.Nat.{ℕ, zero, suc, _+_, _*_, _-_, _<_, _≤_, _/_, _%_}
 use native.Mathlib.Omega.{arith}
+use native.Mathlib.Numerals.{add-one}
 use native.Mathlib.Nat.{mul-le-mul, le-refl, add-zero, mod-lt, div-add-mod', div-lt-iff-lt-mul}
 use lib.Dec.{ltb}
 use borrow.Author.Tests.{ltb-true, ltb-false, ne-eqb}
-use lib.ListN.{length, getD, length-append, List·getD-append}
-use lib.Seq.{getD-append-add}
+use lib.ListN.{length, getD, drop, length-append, List·getD-append}
+use lib.Seq.{getD-append-add, drop-cons}
 use Rattle.words.specs.Choice.{pick, pick-false}
 use Rattle.meaning.specs.Tree.{below}
 use Rattle.meaning.specs.declared.SeqTerm.the-variants.{ConsecAtLeast, Empty}
@@ -18,6 +19,7 @@ use Rattle.meaning.specs.declared.SeqHop.the-variants.{Fixed}
 use Rattle.meaning.specs.Expression.{a·, any}
 use Rattle.meaning.specs.Alternative.{guard, and-opt, SeqAlt, alternative, single, joined, join-rights, join-lefts, join-hops, fixed-from, copies, copies-from, with-empty, consec-finite, consec-unbounded, guard-each}
 use Rattle.meaning.proofs.Counting.{Tally, tally, tally-copies, tally-copies-from, tally-lefts, tally-hops, copies-tallied, copies-from-tallied}
+use Rattle.meaning.proofs.Members.{below-is-one-less}
 use Rattle.expand.specs.ByNumber.{nth, copies-count, copies-from-count, block-of, empties}
 use Rattle.expand.specs.declared.Block.{Block}
 use Rattle.expand.proofs.Arithmetic.{empties-few}
@@ -56,6 +58,11 @@ pub length-copies-from : (base : List SeqAlt) (k count : ℕ)
 length-copies-from base k count = ap alternatives-in (copies-from-tallied base k count) ∙ count-copies-from (tally base) k count
 
 -- ---- by number, positions as sums of products
+
+-- The alternatives that are left, the next one in front.
+pub rest-of : (alts : List SeqAlt) (i : ℕ) → i < length alts → drop i alts ≡ nth alts i ∷ drop (i + 1) alts
+unfolding nth
+rest-of alts i h = rw (add-one i) (drop-cons alts i (single Empty) h)
 
 -- In front of the seam of two lists, and behind it.
 nth-front : (xs ys : List SeqAlt) (i : ℕ) → i < length xs → nth (xs ++ ys) i ≡ nth xs i
@@ -201,10 +208,6 @@ nth-block base k (suc more) i h = go (ltb i c) refl (λ p. nth-block base (suc k
         }
 
 -- ---- repetitions
-
-below-is-one-less : (m : ℕ) → below m ≡ m - 1
-below-is-one-less zero = refl
-below-is-one-less (suc m) = omega arith
 
 -- 01: "max(m,1)".
 pub at-least-one : (m : ℕ) → suc (below m) ≡ m - 1 + 1

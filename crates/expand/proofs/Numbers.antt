@@ -13,11 +13,11 @@ use Rattle.words.specs.Choice.{pick}
 use Rattle.meaning.specs.declared.Node.{Node}
 use Rattle.meaning.specs.declared.SeqHop.{SeqHop}
 use Rattle.meaning.specs.declared.SeqHop.the-variants.{Fixed, AtLeast}
-use Rattle.meaning.specs.Tree.{finite, unbounded, nodeAt, unlimited, maxOf}
+use Rattle.meaning.specs.Tree.{finite, unbounded, node-at, unlimited, max-of}
 use Rattle.meaning.specs.Expression.{a·, any}
 use Rattle.meaning.specs.Alternative.{guard, and-opt, SeqAlt, alternative, joined, hops, copies, copies-from}
 use Rattle.meaning.proofs.Counting.{length-hops}
-use Rattle.meaning.proofs.Taken.{both-hold}
+use Rattle.words.proofs.Taken.{both-hold}
 use Rattle.expand.specs.declared.Parts.{Parts}
 use Rattle.expand.specs.declared.Block.{Block}
 use Rattle.expand.specs.ByNumber.{alternatives-of, copies-of, nth, hops-between, hop-at, parts-of, copies-count, copies-from-count, block-of, empties, repeats, is-copies, delay-parts, copies-block, Expandable, Numbered, NumberedCopies}
@@ -26,7 +26,7 @@ use Rattle.expand.proofs.ByKind.{Repetition, repetition, some-alternati
 use Rattle.expand.proofs.Counted.{length-hops-between, delay-count, throughout-count, copied-some, copied-few, first-few, repeated-count}
 
 -- The k-th hop of a delay.
-nth-hop : (min max k : ℕ) → k < length (hops min (maxOf max)) → getD (hops min (maxOf max)) k (Fixed 0) ≡ hop-at min max k
+nth-hop : (min max k : ℕ) → k < length (hops min (max-of max)) → getD (hops min (max-of max)) k (Fixed 0) ≡ hop-at min max k
 unfolding hop-at pick
 nth-hop min max k h = go (eqb max unlimited) h
   where
@@ -44,7 +44,7 @@ hop-fits min max k p q h = go (eqb max unlimited) h
     go true h = omega arith
     go false h = omega arith
 
-module _ {t : List ℕ} {n i : ℕ} {v : Node} (N : Numbered t n i) (w : v ≡ nodeAt t n) where
+module _ {t : List ℕ} {n i : ℕ} {v : Node} (N : Numbered t n i) (w : v ≡ node-at t n) where
   E : Expandable t n
   E = N .node
 
@@ -104,7 +104,7 @@ module _ {t : List ℕ} {n i : ℕ} {v : Node} (N : Numbered t n i) (w : v ≡ n
         ≡ joined (s .hop) (nth (alternatives-of t (v .p)) (s .left)) (nth (alternatives-of t (v .q)) (s .right))
     unfolding parts-of
     nth-of-delay =
-        let hs = hops (v .min) (maxOf (v .max)) in
+        let hs = hops (v .min) (max-of (v .max)) in
         let h : i / length rs / length ls < length hs = rw (length-hops-between (v .min) (v .max)) (bounds k refl refl .hop) in
         rw apart
         (ap (λ (z : List SeqAlt). nth z i) (delay-alternatives E w k)
@@ -138,22 +138,22 @@ module _ (v : Node) (i : ℕ) {b : Bool} (e : b ≡ is-copies v i) (y : b ≡ tr
       record { repetition = repetition v refl r; past = leb-true (empties (v .min)) i x }
 
 -- A test of the node's words, and of the same words as they were read.
-module _ (t : List ℕ) (n i : ℕ) {v : Node} (w : v ≡ nodeAt t n) where
-  pub read-kind : nodeAt t n .kind ≡ 2 → v .kind ≡ 2
+module _ (t : List ℕ) (n i : ℕ) {v : Node} (w : v ≡ node-at t n) where
+  pub read-kind : node-at t n .kind ≡ 2 → v .kind ≡ 2
   read-kind k = rw w k
 
-  pub kind-read : v .kind ≡ 2 → nodeAt t n .kind ≡ 2
+  pub kind-read : v .kind ≡ 2 → node-at t n .kind ≡ 2
   kind-read k = rw (← w) k
 
-  pub read-copied : is-copies (nodeAt t n) i ≡ true → Copied v i
-  read-copied y = rw w (copied (nodeAt t n) i refl y)
+  pub read-copied : is-copies (node-at t n) i ≡ true → Copied v i
+  read-copied y = rw w (copied (node-at t n) i refl y)
 
-  pub copies-read : {b : Bool} → b ≡ is-copies v i → b ≡ true → is-copies (nodeAt t n) i ≡ true
+  pub copies-read : {b : Bool} → b ≡ is-copies v i → b ≡ true → is-copies (node-at t n) i ≡ true
   copies-read e y = rw (← w) (sym e ∙ y)
 
 -- ---- a finite [*], past its Empty
 
-module _ {t : List ℕ} {n i : ℕ} {v : Node} (N : Numbered t n i) (w : v ≡ nodeAt t n) (R : Copied v i) where
+module _ {t : List ℕ} {n i : ℕ} {v : Node} (N : Numbered t n i) (w : v ≡ node-at t n) (R : Copied v i) where
   abbrev E′ : Expandable t n
   E′ = N .node
 

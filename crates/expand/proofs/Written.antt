@@ -5,34 +5,31 @@ use mathlib.Core.Bool.{Bool, false}
 use mathlib.Core.List.{List, [], _∷_, _++_, append-assoc, append-nil}
 use Prim.Native.Nat.{ℕ, _+_, _-_, _<_, _≤_, _/_, _%_}
 use native.Mathlib.Omega.{arith}
-use lib.ListN.{length, length-append}
+use lib.ListN.{length}
 use Rattle.words.specs.Written.{Wrote}
-use Rattle.words.proofs.Laws.{begin, go, last, same-words, length-written}
-use Rattle.term.specs.Steps.{stepWords}
+use Rattle.words.proofs.Laws.{same-words, first-room, second-room, both-done}
+use Rattle.term.specs.Steps.{step-words, steps-words}
+use Rattle.term.proofs.Round.{length-step-words}
 use Rattle.meaning.specs.declared.Node.{Node}
 use Rattle.meaning.specs.declared.SeqHop.{SeqHop}
 use Rattle.meaning.specs.declared.SeqHop.the-variants.{Fixed}
 use Rattle.meaning.specs.declared.SeqStep.{SeqStep}
-use Rattle.meaning.specs.Tree.{nodeAt, treeAt}
+use Rattle.meaning.specs.Tree.{node-at, tree-at}
 use Rattle.meaning.specs.Alternative.{SeqAlt, step, single, rehop, joined, expand, copies}
 use Rattle.expand.specs.declared.Parts.{Parts}
 use Rattle.expand.specs.declared.Block.{Block}
-use Rattle.expand.specs.ByNumber.{alternatives-of, copies-of, nth, stepsWords, alternative-words, is-copies, single-term, delay-parts, copies-block, Numbered, NumberedCopies}
+use Rattle.expand.specs.ByNumber.{alternatives-of, copies-of, nth, alternative-words, is-copies, single-term, delay-parts, copies-block, Numbered, NumberedCopies}
 use Rattle.expand.proofs.Every.{has-step, each-expanded, each-copies, each-nth}
 use Rattle.expand.proofs.ByKind.{single-alternative}
 use Rattle.expand.proofs.Numbers.{Copied, nth-of-delay, nth-of-throughout, nth-of-block, nth-of-only, nth-of-copies}
 
--- What was written into a slice has not changed its length.
-pub still-long : {o o′ : List ℕ} {at r : ℕ} {ws : List ℕ} → Wrote o o′ at r ws → length o′ ≡ length o
-still-long {o} {at = at} {ws = ws} w = ap length (w .holds) ∙ length-written o at ws
-
 -- ---- steps one after the other
 
-pub steps-append : (xs ys : List SeqStep) → stepsWords (xs ++ ys) ≡ stepsWords xs ++ stepsWords ys
-unfolding stepsWords
+pub steps-append : (xs ys : List SeqStep) → steps-words (xs ++ ys) ≡ steps-words xs ++ steps-words ys
+unfolding steps-words
 steps-append [] ys = refl
 steps-append (x ∷ xs) ys =
-    ap (λ (l : List ℕ). stepWords x ++ l) (steps-append xs ys) ∙ sym (append-assoc (stepWords x) (stepsWords xs) (stepsWords ys))
+    ap (λ (l : List ℕ). step-words x ++ l) (steps-append xs ys) ∙ sym (append-assoc (step-words x) (steps-words xs) (steps-words ys))
 
 -- A hop replaces that of the first step alone.
 rehop-append : (h : SeqHop) (xs ys : List SeqStep) → 0 < length xs → rehop h (xs ++ ys) ≡ rehop h xs ++ ys
@@ -43,7 +40,7 @@ rehop-append h (x ∷ xs) ys p = refl
 words-of : (h : SeqHop) (xs ys : List SeqAlt) (i j : ℕ) → nth xs i .steps ≡ nth ys j .steps
     → alternative-words h xs i ≡ alternative-words h ys j
 unfolding alternative-words
-words-of h xs ys i j e = ap (λ (z : List SeqStep). stepsWords (rehop h z)) e
+words-of h xs ys i j e = ap (λ (z : List SeqStep). steps-words (rehop h z)) e
 
 -- .. of one that is joined of two: the outer hop leads to the left, the inner one to the right.
 words-of-two : (h h′ : SeqHop) (xs ls rs : List SeqAlt) (i l r : ℕ) → nth xs i ≡ joined h′ (nth ls l) (nth rs r)
@@ -53,43 +50,24 @@ unfolding alternative-words
 words-of-two h h′ xs ls rs i l r e p =
     let ss = nth ls l .steps in
     let rest = rehop h′ (nth rs r .steps) in
-    ap (λ (y : SeqAlt). stepsWords (rehop h (y .steps))) e ∙ ap stepsWords (rehop-append h ss rest p) ∙ steps-append (rehop h ss) rest
+    ap (λ (y : SeqAlt). steps-words (rehop h (y .steps))) e ∙ ap steps-words (rehop-append h ss rest p) ∙ steps-append (rehop h ss) rest
 
 -- .. of one that is a single term.
 words-of-one : (h : SeqHop) (xs : List SeqAlt) (i : ℕ) (s : SeqStep) → nth xs i ≡ single (s .term) → s .hop ≡ h
-    → alternative-words h xs i ≡ stepWords s
-unfolding alternative-words stepsWords
+    → alternative-words h xs i ≡ step-words s
+unfolding alternative-words steps-words
 words-of-one h xs i s e f =
-    ap (λ (y : SeqAlt). stepsWords (rehop h (y .steps))) e ∙ append-nil (stepWords (step (s .term) h)) ∙ ap (λ (z : SeqHop). stepWords (step (s .term) z)) (sym f)
-
--- Five words a step.
-length-step : (s : SeqStep) → length (stepWords s) ≡ 5
-unfolding stepWords
-length-step s = refl
+    ap (λ (y : SeqAlt). steps-words (rehop h (y .steps))) e ∙ append-nil (step-words (step (s .term) h)) ∙ ap (λ (z : SeqHop). step-words (step (s .term) z)) (sym f)
 
 -- No alternative is without a step, so that there is one to take the hop.
 some-steps : (t : List ℕ) (n i : ℕ) → 0 < length (nth (alternatives-of t n) i .steps)
 unfolding alternatives-of
-some-steps t n i = each-nth has-step (expand (treeAt t n)) i (each-expanded has-step (treeAt t n))
+some-steps t n i = each-nth has-step (expand (tree-at t n)) i (each-expanded has-step (tree-at t n))
 
 some-copied-steps : (t : List ℕ) (n k i : ℕ) → 0 < length (nth (copies-of (alternatives-of t n) k) i .steps)
 unfolding alternatives-of copies-of
 some-copied-steps t n k i =
-    each-nth has-step (copies (expand (treeAt t n)) k) i (each-copies has-step (expand (treeAt t n)) k (each-expanded has-step (treeAt t n)))
-
--- Two parts, put one after the other, where the whole has room.
-module _ (us vs : List ℕ) {ws : List ℕ} (o : List ℕ) (at : ℕ) (e : ws ≡ us ++ vs) (room : at + length ws ≤ length o) where
-  both-room : at + (length us + length vs) ≤ length o
-  both-room = rw (← length-append, ← e) room
-
-  pub first-room : at + length us ≤ length o
-  first-room = omega (arith, both-room)
-
-  pub second-room : {o₁ : List ℕ} {z : ℕ} → Wrote o o₁ at z us → z + length vs ≤ length o₁
-  second-room x = omega (arith, both-room, x .ends, still-long x)
-
-  pub both-written : {o₁ o₂ : List ℕ} {z y : ℕ} → Wrote o o₁ at z us → Wrote o₁ o₂ z y vs → Wrote o o₂ at y ws
-  both-written x y = same-words (sym e) (last (go us vs (begin o at (us ++ vs)) x) y)
+    each-nth has-step (copies (expand (tree-at t n)) k) i (each-copies has-step (expand (tree-at t n)) k (each-expanded has-step (tree-at t n)))
 
 -- ---- as the code meets them
 
@@ -100,7 +78,7 @@ node-words t n h i = alternative-words h (alternatives-of t n) i
 abbrev copies-words : List ℕ → ℕ → ℕ → SeqHop → ℕ → List ℕ
 copies-words t n k h i = alternative-words h (copies-of (alternatives-of t n) k) i
 
-module _ {t : List ℕ} {n i : ℕ} {v : Node} (h : SeqHop) (o : List ℕ) (at : ℕ) (N : Numbered t n i) (room : at + length (node-words t n h i) ≤ length o) (w : v ≡ nodeAt t n) where
+module _ {t : List ℕ} {n i : ℕ} {v : Node} (h : SeqHop) (o : List ℕ) (at : ℕ) (N : Numbered t n i) (room : at + length (node-words t n h i) ≤ length o) (w : v ≡ node-at t n) where
   -- delay
   module _ {s : Parts} (k : v .kind ≡ 2) (c : s ≡ delay-parts t n i) where
     abbrev left : List ℕ
@@ -115,15 +93,15 @@ module _ {t : List ℕ} {n i : ℕ} {v : Node} (h : SeqHop) (o : List ℕ) (at :
         (nth-of-delay N w k c) (some-steps t (v .p) (s .left))
 
     pub left-room : at + length (node-words t (v .p) h (s .left)) ≤ length o
-    left-room = first-room left right o at delay-words room
+    left-room = first-room at left right delay-words room
 
     module _ {o₁ : List ℕ} {z : ℕ} (x : Wrote o o₁ at z (node-words t (v .p) h (s .left))) where
       pub right-room : z + length (node-words t (v .q) (s .hop) (s .right)) ≤ length o₁
-      right-room = second-room left right o at delay-words room x
+      right-room = second-room left right delay-words room x
 
       pub delay-written : {o₂ : List ℕ} {y : ℕ} → Wrote o₁ o₂ z y (node-words t (v .q) (s .hop) (s .right))
           → Wrote o o₂ at y (node-words t n h i)
-      delay-written y = both-written left right o at delay-words room x y
+      delay-written y = both-done delay-words x y
 
   -- throughout
   module _ (k : v .kind ≡ 6) where
@@ -154,15 +132,15 @@ module _ {t : List ℕ} {n i : ℕ} {v : Node} (h : SeqHop) (o : List ℕ) (at :
 
   -- one term
   module _ {b : Bool} (d : v .kind ≡ 2 → ⊥) (g : v .kind ≡ 6 → ⊥) (c : b ≡ is-copies v i) (x : b ≡ false) where
-    single-words : (s : SeqStep) → s .term ≡ single-term t v i → s .hop ≡ h → node-words t n h i ≡ stepWords s
+    single-words : (s : SeqStep) → s .term ≡ single-term t v i → s .hop ≡ h → node-words t n h i ≡ step-words s
     single-words s e f =
         words-of-one h (alternatives-of t n) i s (single-alternative (N .node) w d g i (N .index) c x ∙ ap single (sym e)) f
 
     pub single-room : at + 5 ≤ length o
-    single-room = let s = step (single-term t v i) h in rw (single-words s refl refl, length-step s) at room
+    single-room = let s = step (single-term t v i) h in rw (single-words s refl refl, length-step-words s) at room
 
     pub single-written : {o₁ : List ℕ} {z : ℕ} {s : SeqStep} → s .term ≡ single-term t v i → s .hop ≡ h
-        → Wrote o o₁ at z (stepWords s) → Wrote o o₁ at z (node-words t n h i)
+        → Wrote o o₁ at z (step-words s) → Wrote o o₁ at z (node-words t n h i)
     single-written {s = s} e f y = same-words (sym (single-words s e f)) y
 
 module _ {t : List ℕ} {n k i : ℕ} (h : SeqHop) (o : List ℕ) (at : ℕ) (C : NumberedCopies t n k i) (room : at + length (copies-words t n k h i) ≤ length o) where
@@ -191,12 +169,12 @@ module _ {t : List ℕ} {n k i : ℕ} (h : SeqHop) (o : List ℕ) (at : ℕ) (C 
         (alternatives-of t n) i (i / a) (i % a) (nth-of-copies C m e) (some-copied-steps t n (k - 1) (i / a))
 
     pub earlier-room : at + length (copies-words t n (k - 1) h (i / a)) ≤ length o
-    earlier-room = first-room earlier last-copy o at all-words room
+    earlier-room = first-room at earlier last-copy all-words room
 
     module _ {o₁ : List ℕ} {z : ℕ} (x : Wrote o o₁ at z (copies-words t n (k - 1) h (i / a))) where
       pub last-room : z + length (node-words t n (Fixed 1) (i % a)) ≤ length o₁
-      last-room = second-room earlier last-copy o at all-words room x
+      last-room = second-room earlier last-copy all-words room x
 
       pub copies-written : {o₂ : List ℕ} {y : ℕ} → Wrote o₁ o₂ z y (node-words t n (Fixed 1) (i % a))
           → Wrote o o₂ at y (copies-words t n k h i)
-      copies-written y = both-written earlier last-copy o at all-words room x y
+      copies-written y = both-done all-words x y

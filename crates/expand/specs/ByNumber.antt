@@ -3,19 +3,18 @@
 -- Example: `a[*1:2] ##[3:4] b` has four. Number 3 is the second hop, 4, between the second left and the only right: a a b.
 use mathlib.Core.Bool.{Bool, false}
 use mathlib.Core.Path.{_≡_}
-use mathlib.Core.List.{List, [], _∷_, _++_}
+use mathlib.Core.List.{List}
 use Prim.Native.Nat.{ℕ, zero, suc, _+_, _*_, _-_, _<_, _≤_, _/_, _%_}
 use lib.Dec.{eqb, leb, ltb}
 use lib.ListN.{length, getD}
 use Rattle.words.specs.Choice.{pick}
-use Rattle.term.specs.Steps.{stepWords}
+use Rattle.term.specs.Steps.{steps-words}
 use Rattle.meaning.specs.declared.Node.{Node}
 use Rattle.meaning.specs.declared.SeqTerm.{SeqTerm}
 use Rattle.meaning.specs.declared.SeqTerm.the-variants.{Bool as BoolTerm, Goto, Nonconsec, ConsecAtLeast, Empty}
 use Rattle.meaning.specs.declared.SeqHop.{SeqHop}
 use Rattle.meaning.specs.declared.SeqHop.the-variants.{Fixed, AtLeast}
-use Rattle.meaning.specs.declared.SeqStep.{SeqStep}
-use Rattle.meaning.specs.Tree.{nodeAt, treeAt, nodes, unlimited}
+use Rattle.meaning.specs.Tree.{node-at, tree-at, nodes, unlimited}
 use Rattle.meaning.specs.Alternative.{SeqAlt, single, rehop, copies, expand}
 use Rattle.meaning.specs.Lowerable.{FormedTable, Walkable}
 use Rattle.expand.specs.declared.Parts.{Parts}
@@ -23,7 +22,7 @@ use Rattle.expand.specs.declared.Block.{Block}
 
 -- The alternatives of node n of the table.
 unfoldable pub alternatives-of : List ℕ → ℕ → List SeqAlt
-alternatives-of t n = expand (treeAt t n)
+alternatives-of t n = expand (tree-at t n)
 
 -- 01: "k = max(m,1) up to n copies"; here k + 1 of them.
 unfoldable pub copies-of : List SeqAlt → ℕ → List SeqAlt
@@ -33,15 +32,10 @@ copies-of base k = copies base k
 unfoldable pub nth : List SeqAlt → ℕ → SeqAlt
 nth alts i = getD alts i (single Empty)
 
--- Steps one after the other, five words each.
-unfoldable pub stepsWords : List SeqStep → List ℕ
-stepsWords [] = []
-stepsWords (s ∷ ss) = stepWords s ++ stepsWords ss
-
 -- The words of the i-th alternative's steps, of which the first is reached by h: "the hop replaces that of the right's
 -- first term".
 unfoldable pub alternative-words : SeqHop → List SeqAlt → ℕ → List ℕ
-alternative-words h alts i = stepsWords (rehop h (nth alts i .steps))
+alternative-words h alts i = steps-words (rehop h (nth alts i .steps))
 
 -- How many hops a delay has: "each fixed value from min to max; for $, one".
 unfoldable pub hops-between : ℕ → ℕ → ℕ
@@ -95,20 +89,20 @@ single-term t v i =
     pick (eqb (v .kind) 1)
     (BoolTerm (v .p))
     (pick (eqb (v .kind) 4)
-    (Goto (nodeAt t (v .p) .p) (v .min))
+    (Goto (node-at t (v .p) .p) (v .min))
     (pick (eqb (v .kind) 5)
-    (Nonconsec (nodeAt t (v .p) .p) (v .min))
-    (pick (ltb i (empties (v .min))) Empty (ConsecAtLeast (nodeAt t (v .p) .p) (v .min - 1 + 1)))))
+    (Nonconsec (node-at t (v .p) .p) (v .min))
+    (pick (ltb i (empties (v .min))) Empty (ConsecAtLeast (node-at t (v .p) .p) (v .min - 1 + 1)))))
 
 -- What alternative i of the delay n is made of.
 unfoldable pub delay-parts : List ℕ → ℕ → ℕ → Parts
 delay-parts t n i =
-    let v = nodeAt t n in parts-of (v .min) (v .max) i (length (alternatives-of t (v .p))) (length (alternatives-of t (v .q)))
+    let v = node-at t n in parts-of (v .min) (v .max) i (length (alternatives-of t (v .p))) (length (alternatives-of t (v .q)))
 
 -- Where alternative i of the repetition n stands, past its Empty.
 unfoldable pub copies-block : List ℕ → ℕ → ℕ → Block
 copies-block t n i =
-    let v = nodeAt t n in block-of (length (alternatives-of t (v .p))) (v .min - 1) (v .max - (v .min - 1) - 1) (i - empties (v .min))
+    let v = node-at t n in block-of (length (alternatives-of t (v .p))) (v .min - 1) (v .max - (v .min - 1) - 1) (i - empties (v .min))
 
 -- The operand of a node of another kind than 1 can be read.
 pub record OperandInside (t : List ℕ) (v : Node) : Type 0 where
@@ -120,7 +114,7 @@ pub record Expandable (t : List ℕ) (n : ℕ) : Type 0 where
   pub formed : FormedTable t
   pub inside : n < nodes t
   pub room : ℕ
-  pub walkable : Walkable room (treeAt t n)
+  pub walkable : Walkable room (tree-at t n)
 
 -- .. and the number of one of its alternatives.
 pub record Numbered (t : List ℕ) (n i : ℕ) : Type 0 where

@@ -7,7 +7,7 @@ ghost use mathlib.Core.Bool.{true};
 ghost use Prim.Native.Nat.{_+_, _*_, _-_, _/_, _≤_, _<_};
 ghost use lib.ListN.{length};
 ghost use Rattle.words.specs.Written.{Wrote};
-ghost use Rattle.meaning.specs.Tree.{nodeAt};
+ghost use Rattle.meaning.specs.Tree.{node-at};
 ghost use Rattle.expand.specs.ByNumber.{alternatives-of, copies-of, alternative-words, hops-between, hop-at, parts-of, copies-count, copies-from-count, block-of, empties, repeats, is-copies, single-count, single-term, delay-parts, copies-block, OperandInside, Expandable, Numbered, NumberedCopies};
 
 // What an alternative of a delay is made of: its hop, and the numbers of the left's and the right's alternative.
@@ -223,7 +223,7 @@ pub fn alternatives(t: &[u32], n: u32) -> u32
 
 // What alternative i of the delay n is made of.
 pub fn delay_parts(t: &[u32], n: u32, i: u32) -> Parts
-    requires { ⌜ Numbered (now t) n i × (nodeAt (now t) n .kind ≡ 2) ⌝ }
+    requires { ⌜ Numbered (now t) n i × (node-at (now t) n .kind ≡ 2) ⌝ }
     ensures { λ r. ⌜ r ≡ delay-parts (now (t .entry)) n i ⌝ }
 {
     let v = tree::read(t, n);
@@ -234,7 +234,7 @@ pub fn delay_parts(t: &[u32], n: u32, i: u32) -> Parts
 
 // Where alternative i of the repetition n stands, past its Empty.
 pub fn copies_block(t: &[u32], n: u32, i: u32) -> Block
-    requires { ⌜ Numbered (now t) n i × (is-copies (nodeAt (now t) n) i ≡ true) ⌝ }
+    requires { ⌜ Numbered (now t) n i × (is-copies (node-at (now t) n) i ≡ true) ⌝ }
     ensures { λ r. ⌜ r ≡ copies-block (now (t .entry)) n i ⌝ }
 {
     let v = tree::read(t, n);

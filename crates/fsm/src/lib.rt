@@ -3,15 +3,15 @@
 //
 // Example: `b[->2]` stores r0 1 or a1 any not and, then a1 any r0 1 or and a1 any not r1 and or.
 ghost use mathlib.Core.List.{[], _∷_, _++_};
-ghost use Prim.Native.Nat.{_+_, _*_, _-_, _≤_, _<_};
+ghost use Prim.Native.Nat.{_+_, _-_, _≤_, _<_};
 ghost use lib.ListN.{length};
 ghost use Rattle.words.specs.Written.{Wrote};
 ghost use Rattle.meaning.specs.Expression.{gto, ncx, crl};
-ghost use Rattle.meaning.specs.declared.SeqTerm.the-variants.{Goto, Nonconsec, ConsecAtLeast};
-ghost use Rattle.term.specs.Steps.{termAtom};
-ghost use Rattle.current.specs.Text.{atomWord, registerWord, oneWord, anyWord, notWord, andWord, orWord, storeWord, atLeastOne, termRegisters, termText, activationAt};
+ghost use Rattle.meaning.specs.declared.SeqTerm.the-variants.{Nonconsec};
+ghost use Rattle.term.specs.Steps.{term-atom};
+ghost use Rattle.current.specs.Text.{atom-word, register-word, one-word, any-word, not-word, and-word, or-word, store-word, at-least-one, term-registers, term-text, activation-at};
 ghost use Rattle.current.specs.Walk.{Ready};
-ghost use Rattle.fsm.specs.Stores.{gotoStages, gotoStores, nonconsecStores, runStages, termStores};
+ghost use Rattle.fsm.specs.Stores.{goto-stage-words, goto-store-words, nonconsec-store-words, run-stage-words, term-store-words};
 
 const GTO: u32 = 11 * current::ATOM;
 
@@ -30,8 +30,8 @@ fn goto_first(
     out: &mut [u32],
     at: usize,
 ) -> usize
-    requires { ⌜ Ready (now steps) k r × (b < 65536) × (q < 65536) × (at + (7 + length (activationAt (now steps) (now guard) k r)) ≤ length (now out)) ⌝ }
-    ensures { λ p. ⌜ Wrote (now (out .entry)) (now (out .exit)) at p (registerWord q ∷ (activationAt (now (steps .entry)) (now (guard .entry)) k r ++ (orWord ∷ atomWord b ∷ anyWord ∷ notWord ∷ andWord ∷ storeWord gto q ∷ []))) ⌝ }
+    requires { ⌜ Ready (now steps) k r × (b < 65536) × (q < 65536) × (at + (7 + length (activation-at (now steps) (now guard) k r)) ≤ length (now out)) ⌝ }
+    ensures { λ p. ⌜ Wrote (now (out .entry)) (now (out .exit)) at p (register-word q ∷ (activation-at (now (steps .entry)) (now (guard .entry)) k r ++ (or-word ∷ atom-word b ∷ any-word ∷ not-word ∷ and-word ∷ store-word gto q ∷ []))) ⌝ }
 {
     let x = words::put(out, at, current::REGISTER + q);
     let y = current::activation(steps, guard, k, r, out, x);
@@ -60,8 +60,8 @@ fn goto_second(
     out: &mut [u32],
     at: usize,
 ) -> usize
-    requires { ⌜ Ready (now steps) k r × (b < 65536) × (q + 1 < 65536) × (at + (12 + length (activationAt (now steps) (now guard) k r)) ≤ length (now out)) ⌝ }
-    ensures { λ p. ⌜ Wrote (now (out .entry)) (now (out .exit)) at p (atomWord b ∷ anyWord ∷ registerWord q ∷ (activationAt (now (steps .entry)) (now (guard .entry)) k r ++ (orWord ∷ andWord ∷ atomWord b ∷ anyWord ∷ notWord ∷ registerWord (q + 1) ∷ andWord ∷ orWord ∷ storeWord gto (q + 1) ∷ []))) ⌝ }
+    requires { ⌜ Ready (now steps) k r × (b < 65536) × (q + 1 < 65536) × (at + (12 + length (activation-at (now steps) (now guard) k r)) ≤ length (now out)) ⌝ }
+    ensures { λ p. ⌜ Wrote (now (out .entry)) (now (out .exit)) at p (atom-word b ∷ any-word ∷ register-word q ∷ (activation-at (now (steps .entry)) (now (guard .entry)) k r ++ (or-word ∷ and-word ∷ atom-word b ∷ any-word ∷ not-word ∷ register-word (q + 1) ∷ and-word ∷ or-word ∷ store-word gto (q + 1) ∷ []))) ⌝ }
 {
     let x = current::copied(
         &[current::ATOM + b, current::ANY, current::REGISTER + q],
@@ -89,7 +89,7 @@ fn goto_second(
 // A register after those: (b & reg_{r-1}) | (~b & reg_r).
 fn goto_next(b: u32, r: u32, out: &mut [u32], at: usize) -> usize
     requires { ⌜ (at + 11 ≤ length (now out)) × (b < 65536) × (0 < r) × (r < 65536) ⌝ }
-    ensures { λ p. ⌜ Wrote (now (out .entry)) (now (out .exit)) at p (atomWord b ∷ anyWord ∷ registerWord (r - 1) ∷ andWord ∷ atomWord b ∷ anyWord ∷ notWord ∷ registerWord r ∷ andWord ∷ orWord ∷ storeWord gto r ∷ []) ⌝ }
+    ensures { λ p. ⌜ Wrote (now (out .entry)) (now (out .exit)) at p (atom-word b ∷ any-word ∷ register-word (r - 1) ∷ and-word ∷ atom-word b ∷ any-word ∷ not-word ∷ register-word r ∷ and-word ∷ or-word ∷ store-word gto r ∷ []) ⌝ }
 {
     current::copied(
         &[
@@ -112,8 +112,8 @@ fn goto_next(b: u32, r: u32, out: &mut [u32], at: usize) -> usize
 
 // count of them, from r on.
 fn goto_later(b: u32, r: u32, count: u32, out: &mut [u32], at: usize) -> usize
-    requires { ⌜ (b < 65536) × (0 < r) × (r + count ≤ 65536) × (at + length (gotoStages b r count (registerWord (r - 1) ∷ [])) ≤ length (now out)) ⌝ }
-    ensures { λ p. ⌜ Wrote (now (out .entry)) (now (out .exit)) at p (gotoStages b r count (registerWord (r - 1) ∷ [])) ⌝ }
+    requires { ⌜ (b < 65536) × (0 < r) × (r + count ≤ 65536) × (at + length (goto-stage-words b r count (register-word (r - 1) ∷ [])) ≤ length (now out)) ⌝ }
+    ensures { λ p. ⌜ Wrote (now (out .entry)) (now (out .exit)) at p (goto-stage-words b r count (register-word (r - 1) ∷ [])) ⌝ }
 {
     let mut p = at;
     let mut i = 0;
@@ -136,8 +136,8 @@ pub fn goto_fsm(
     out: &mut [u32],
     at: usize,
 ) -> usize
-    requires { ⌜ Ready (now steps) k r × (b < 65536) × (q + atLeastOne count ≤ 65536) × (at + length (gotoStores b count q (activationAt (now steps) (now guard) k r)) ≤ length (now out)) ⌝ }
-    ensures { λ p. ⌜ Wrote (now (out .entry)) (now (out .exit)) at p (gotoStores b count q (activationAt (now (steps .entry)) (now (guard .entry)) k r)) ⌝ }
+    requires { ⌜ Ready (now steps) k r × (b < 65536) × (q + at-least-one count ≤ 65536) × (at + length (goto-store-words b count q (activation-at (now steps) (now guard) k r)) ≤ length (now out)) ⌝ }
+    ensures { λ p. ⌜ Wrote (now (out .entry)) (now (out .exit)) at p (goto-store-words b count q (activation-at (now (steps .entry)) (now (guard .entry)) k r)) ⌝ }
 {
     let x = goto_first(steps, guard, k, r, b, q, out, at);
     if count < 2 {
@@ -158,8 +158,8 @@ fn matched(
     out: &mut [u32],
     at: usize,
 ) -> usize
-    requires { ⌜ Ready (now steps) k r × (termAtom x < 65536) × (q + termRegisters x ≤ 65536) × (at + length (termText q x (activationAt (now steps) (now guard) k r)) ≤ length (now out)) ⌝ }
-    ensures { λ p. ⌜ Wrote (now (out .entry)) (now (out .exit)) at p (termText q x (activationAt (now (steps .entry)) (now (guard .entry)) k r)) ⌝ }
+    requires { ⌜ Ready (now steps) k r × (term-atom x < 65536) × (q + term-registers x ≤ 65536) × (at + length (term-text q x (activation-at (now steps) (now guard) k r)) ≤ length (now out)) ⌝ }
+    ensures { λ p. ⌜ Wrote (now (out .entry)) (now (out .exit)) at p (term-text q x (activation-at (now (steps .entry)) (now (guard .entry)) k r)) ⌝ }
 {
     if current::term_keeps(x) {
         let a = current::term_prefix(x, q, out, at);
@@ -181,8 +181,8 @@ fn extension(
     out: &mut [u32],
     at: usize,
 ) -> usize
-    requires { ⌜ Ready (now steps) k r × (b < 65536) × (q + atLeastOne count + 1 ≤ 65536) × (at + (1 + length (termText q (Nonconsec b count) (activationAt (now steps) (now guard) k r))) ≤ length (now out)) ⌝ }
-    ensures { λ p. ⌜ Wrote (now (out .entry)) (now (out .exit)) at p (termText q (Nonconsec b count) (activationAt (now (steps .entry)) (now (guard .entry)) k r) ++ (storeWord ncx (q + atLeastOne count) ∷ [])) ⌝ }
+    requires { ⌜ Ready (now steps) k r × (b < 65536) × (q + at-least-one count + 1 ≤ 65536) × (at + (1 + length (term-text q (Nonconsec b count) (activation-at (now steps) (now guard) k r))) ≤ length (now out)) ⌝ }
+    ensures { λ p. ⌜ Wrote (now (out .entry)) (now (out .exit)) at p (term-text q (Nonconsec b count) (activation-at (now (steps .entry)) (now (guard .entry)) k r) ++ (store-word ncx (q + at-least-one count) ∷ [])) ⌝ }
 {
     let m = current::at_least_one(count);
     let a = matched(
@@ -210,8 +210,8 @@ pub fn nonconsec_fsm(
     out: &mut [u32],
     at: usize,
 ) -> usize
-    requires { ⌜ Ready (now steps) k r × (b < 65536) × (q + atLeastOne count + 1 ≤ 65536) × (at + length (nonconsecStores b count q (activationAt (now steps) (now guard) k r)) ≤ length (now out)) ⌝ }
-    ensures { λ p. ⌜ Wrote (now (out .entry)) (now (out .exit)) at p (nonconsecStores b count q (activationAt (now (steps .entry)) (now (guard .entry)) k r)) ⌝ }
+    requires { ⌜ Ready (now steps) k r × (b < 65536) × (q + at-least-one count + 1 ≤ 65536) × (at + length (nonconsec-store-words b count q (activation-at (now steps) (now guard) k r)) ≤ length (now out)) ⌝ }
+    ensures { λ p. ⌜ Wrote (now (out .entry)) (now (out .exit)) at p (nonconsec-store-words b count q (activation-at (now (steps .entry)) (now (guard .entry)) k r)) ⌝ }
 {
     let x = goto_fsm(steps, guard, k, r, b, count, q, out, at);
     extension(steps, guard, k, r, b, count, q, out, x)
@@ -228,8 +228,8 @@ fn run_only(
     out: &mut [u32],
     at: usize,
 ) -> usize
-    requires { ⌜ Ready (now steps) k r × (b < 65536) × (q < 65536) × (at + (6 + length (activationAt (now steps) (now guard) k r)) ≤ length (now out)) ⌝ }
-    ensures { λ p. ⌜ Wrote (now (out .entry)) (now (out .exit)) at p (activationAt (now (steps .entry)) (now (guard .entry)) k r ++ (registerWord q ∷ orWord ∷ atomWord b ∷ anyWord ∷ andWord ∷ storeWord crl q ∷ [])) ⌝ }
+    requires { ⌜ Ready (now steps) k r × (b < 65536) × (q < 65536) × (at + (6 + length (activation-at (now steps) (now guard) k r)) ≤ length (now out)) ⌝ }
+    ensures { λ p. ⌜ Wrote (now (out .entry)) (now (out .exit)) at p (activation-at (now (steps .entry)) (now (guard .entry)) k r ++ (register-word q ∷ or-word ∷ atom-word b ∷ any-word ∷ and-word ∷ store-word crl q ∷ [])) ⌝ }
 {
     let x = current::activation(steps, guard, k, r, out, at);
     current::copied(
@@ -257,8 +257,8 @@ fn run_first(
     out: &mut [u32],
     at: usize,
 ) -> usize
-    requires { ⌜ Ready (now steps) k r × (b < 65536) × (q < 65536) × (at + (4 + length (activationAt (now steps) (now guard) k r)) ≤ length (now out)) ⌝ }
-    ensures { λ p. ⌜ Wrote (now (out .entry)) (now (out .exit)) at p (activationAt (now (steps .entry)) (now (guard .entry)) k r ++ (atomWord b ∷ anyWord ∷ andWord ∷ storeWord crl q ∷ [])) ⌝ }
+    requires { ⌜ Ready (now steps) k r × (b < 65536) × (q < 65536) × (at + (4 + length (activation-at (now steps) (now guard) k r)) ≤ length (now out)) ⌝ }
+    ensures { λ p. ⌜ Wrote (now (out .entry)) (now (out .exit)) at p (activation-at (now (steps .entry)) (now (guard .entry)) k r ++ (atom-word b ∷ any-word ∷ and-word ∷ store-word crl q ∷ [])) ⌝ }
 {
     let x = current::activation(steps, guard, k, r, out, at);
     current::copied(
@@ -271,7 +271,7 @@ fn run_first(
 // One in the middle: reg_{r-1} & b.
 fn run_next(b: u32, r: u32, out: &mut [u32], at: usize) -> usize
     requires { ⌜ (at + 5 ≤ length (now out)) × (b < 65536) × (0 < r) × (r < 65536) ⌝ }
-    ensures { λ p. ⌜ Wrote (now (out .entry)) (now (out .exit)) at p (registerWord (r - 1) ∷ atomWord b ∷ anyWord ∷ andWord ∷ storeWord crl r ∷ []) ⌝ }
+    ensures { λ p. ⌜ Wrote (now (out .entry)) (now (out .exit)) at p (register-word (r - 1) ∷ atom-word b ∷ any-word ∷ and-word ∷ store-word crl r ∷ []) ⌝ }
 {
     current::copied(
         &[
@@ -289,7 +289,7 @@ fn run_next(b: u32, r: u32, out: &mut [u32], at: usize) -> usize
 // The top one: (reg_{r-1} | reg_r) & b.
 fn run_top(b: u32, r: u32, out: &mut [u32], at: usize) -> usize
     requires { ⌜ (at + 7 ≤ length (now out)) × (b < 65536) × (0 < r) × (r < 65536) ⌝ }
-    ensures { λ p. ⌜ Wrote (now (out .entry)) (now (out .exit)) at p (registerWord (r - 1) ∷ registerWord r ∷ orWord ∷ atomWord b ∷ anyWord ∷ andWord ∷ storeWord crl r ∷ []) ⌝ }
+    ensures { λ p. ⌜ Wrote (now (out .entry)) (now (out .exit)) at p (register-word (r - 1) ∷ register-word r ∷ or-word ∷ atom-word b ∷ any-word ∷ and-word ∷ store-word crl r ∷ []) ⌝ }
 {
     current::copied(
         &[
@@ -308,8 +308,8 @@ fn run_top(b: u32, r: u32, out: &mut [u32], at: usize) -> usize
 
 // count in the middle, from r on, and the top one.
 fn run_later(b: u32, r: u32, count: u32, out: &mut [u32], at: usize) -> usize
-    requires { ⌜ (b < 65536) × (0 < r) × (r + count < 65536) × (at + length (runStages b r count (registerWord (r - 1) ∷ [])) ≤ length (now out)) ⌝ }
-    ensures { λ p. ⌜ Wrote (now (out .entry)) (now (out .exit)) at p (runStages b r count (registerWord (r - 1) ∷ [])) ⌝ }
+    requires { ⌜ (b < 65536) × (0 < r) × (r + count < 65536) × (at + length (run-stage-words b r count (register-word (r - 1) ∷ [])) ≤ length (now out)) ⌝ }
+    ensures { λ p. ⌜ Wrote (now (out .entry)) (now (out .exit)) at p (run-stage-words b r count (register-word (r - 1) ∷ [])) ⌝ }
 {
     let mut p = at;
     let mut i = 0;
@@ -332,8 +332,8 @@ pub fn consec_run_fsm(
     out: &mut [u32],
     at: usize,
 ) -> usize
-    requires { ⌜ Ready (now steps) k r × (b < 65536) × (q + atLeastOne count ≤ 65536) × (at + length (runStages b q (count - 1) (activationAt (now steps) (now guard) k r)) ≤ length (now out)) ⌝ }
-    ensures { λ p. ⌜ Wrote (now (out .entry)) (now (out .exit)) at p (runStages b q (count - 1) (activationAt (now (steps .entry)) (now (guard .entry)) k r)) ⌝ }
+    requires { ⌜ Ready (now steps) k r × (b < 65536) × (q + at-least-one count ≤ 65536) × (at + length (run-stage-words b q (count - 1) (activation-at (now steps) (now guard) k r)) ≤ length (now out)) ⌝ }
+    ensures { λ p. ⌜ Wrote (now (out .entry)) (now (out .exit)) at p (run-stage-words b q (count - 1) (activation-at (now (steps .entry)) (now (guard .entry)) k r)) ⌝ }
 {
     if count < 2 {
         return run_only(steps, guard, k, r, b, q, out, at);
@@ -351,8 +351,8 @@ pub fn seed(
     out: &mut [u32],
     at: usize,
 ) -> usize
-    requires { ⌜ Ready (now steps) 0 n × (termAtom x < 65536) × (n + termRegisters x ≤ 65536) × (at + length (termStores n x (oneWord ∷ [])) ≤ length (now out)) ⌝ }
-    ensures { λ p. ⌜ Wrote (now (out .entry)) (now (out .exit)) at p (termStores n x (oneWord ∷ [])) ⌝ }
+    requires { ⌜ Ready (now steps) 0 n × (term-atom x < 65536) × (n + term-registers x ≤ 65536) × (at + length (term-store-words n x (one-word ∷ [])) ≤ length (now out)) ⌝ }
+    ensures { λ p. ⌜ Wrote (now (out .entry)) (now (out .exit)) at p (term-store-words n x (one-word ∷ [])) ⌝ }
 {
     match x {
         meaning::SeqTerm::Bool(_) => at,
@@ -394,8 +394,8 @@ pub fn apply_term(
     out: &mut [u32],
     at: usize,
 ) -> usize
-    requires { ⌜ Ready (now steps) k r × (termAtom x < 65536) × (q + termRegisters x ≤ 65536) × (at + length (termStores q x (activationAt (now steps) (now guard) k r)) ≤ length (now out)) ⌝ }
-    ensures { λ p. ⌜ Wrote (now (out .entry)) (now (out .exit)) at p (termStores q x (activationAt (now (steps .entry)) (now (guard .entry)) k r)) ⌝ }
+    requires { ⌜ Ready (now steps) k r × (term-atom x < 65536) × (q + term-registers x ≤ 65536) × (at + length (term-store-words q x (activation-at (now steps) (now guard) k r)) ≤ length (now out)) ⌝ }
+    ensures { λ p. ⌜ Wrote (now (out .entry)) (now (out .exit)) at p (term-store-words q x (activation-at (now (steps .entry)) (now (guard .entry)) k r)) ⌝ }
 {
     match x {
         meaning::SeqTerm::Bool(_) => at,

@@ -9,30 +9,20 @@ use lib.ListN.{length, length-append}
 use borrow.Author.Tests.{eq-eqb, ne-eqb}
 use Rattle.words.specs.Choice.{pick-true, pick-false}
 use Rattle.words.specs.Written.{Wrote}
-use Rattle.words.proofs.Laws.{begin, go, last, done, same-words}
+use Rattle.words.proofs.Laws.{still-long, begin, go, nothing-written, last, same-words}
+use Rattle.term.specs.Guards.{guard-words}
 use Rattle.meaning.specs.declared.Node.{Node}
-use Rattle.meaning.specs.Tree.{nodeAt}
-use Rattle.meaning.specs.Expression.{Expr, a·, r·, zero·, one·, any, not·, and·, or·}
+use Rattle.meaning.specs.Tree.{node-at}
+use Rattle.meaning.specs.Expression.{a·, any}
 use Rattle.meaning.specs.Listing.{word, expression-words}
 use Rattle.meaning.specs.Alternative.{Guard, unguarded, guard, and-opt, SeqAlt}
+use Rattle.meaning.proofs.Emitted.{some-words}
 use Rattle.expand.specs.declared.Parts.{Parts}
 use Rattle.expand.specs.declared.Block.{Block}
 use Rattle.expand.specs.ByNumber.{alternatives-of, copies-of, nth, is-copies, delay-parts, copies-block, Numbered, NumberedCopies}
 use Rattle.expand.proofs.ByKind.{well-formed, single-alternative}
 use Rattle.expand.proofs.Numbers.{Copied, nth-of-delay, nth-of-throughout, nth-of-block, nth-of-only, nth-of-copies}
-use Rattle.expand.proofs.Written.{still-long}
-use Rattle.guards.specs.GuardText.{guardText, closedGuard, guard-text, closed-guard, joining}
-
--- An expression is not without words, so that a guard which wrote nothing is none.
-some-words : (x : Expr) → 0 < length (expression-words x)
-some-words (a· a) = omega arith
-some-words (r· r) = omega arith
-some-words zero· = omega arith
-some-words one· = omega arith
-some-words (any e) = omega (arith, length-append (expression-words e) (word 5 0 ∷ []))
-some-words (not· e) = omega (arith, length-append (expression-words e) (word 6 0 ∷ []))
-some-words (and· x y) = omega (arith, some-words x, length-append (expression-words x) (expression-words y ++ (word 7 0 ∷ [])))
-some-words (or· x y) = omega (arith, some-words x, length-append (expression-words x) (expression-words y ++ (word 8 0 ∷ [])))
+use Rattle.guards.specs.GuardText.{guard-expression, guard-text, closed-guard, joining}
 
 -- ---- `join_guards`
 
@@ -48,9 +38,6 @@ join-first e f = pick-false _ _ (ne-eqb _ _ e) ∙ pick-true _ _ (eq-eqb _ _ f)
 join-both : {from middle end : ℕ} → (from ≡ middle → ⊥) → (middle ≡ end → ⊥) → joining from middle end ≡ word 7 0 ∷ []
 unfolding joining
 join-both e f = pick-false _ _ (ne-eqb _ _ e) ∙ pick-false _ _ (ne-eqb _ _ f)
-
-nothing-written : (o : List ℕ) (at : ℕ) → Wrote o o at at []
-nothing-written o at = done (begin o at [])
 
 -- .. as the code puts it.
 pub none-joined : (o : List ℕ) {from middle : ℕ} (end : ℕ) → from ≡ middle → Wrote o o end end (joining from middle end)
@@ -70,43 +57,43 @@ module _ {from middle end : ℕ} (e : from ≡ middle → ⊥) (f : middle ≡ e
 -- ---- two guards
 
 -- `and_opt` in words, wherever they are put.
-text-of-two : (g h : Guard) (from middle end : ℕ) → middle ≡ from + length (guardText g) → end ≡ middle + length (guardText h)
-    → guardText (and-opt g h) ≡ guardText g ++ (guardText h ++ joining from middle end)
+text-of-two : (g h : Guard) (from middle end : ℕ) → middle ≡ from + length (guard-expression g) → end ≡ middle + length (guard-expression h)
+    → guard-expression (and-opt g h) ≡ guard-expression g ++ (guard-expression h ++ joining from middle end)
 text-of-two unguarded h from middle end p q =
-    sym (ap (λ (l : List ℕ). guardText h ++ l) (join-none end (omega arith)) ∙ append-nil (guardText h))
+    sym (ap (λ (l : List ℕ). guard-expression h ++ l) (join-none end (omega arith)) ∙ append-nil (guard-expression h))
 text-of-two (guard x) unguarded from middle end p q =
     sym (ap (λ (l : List ℕ). expression-words x ++ l) (join-first (λ e. omega (arith, some-words x)) (omega arith)) ∙ append-nil (expression-words x))
 text-of-two (guard x) (guard y) from middle end p q =
     ap (λ (l : List ℕ). expression-words x ++ (expression-words y ++ l)) (sym (join-both (λ e. omega (arith, some-words x)) (λ e. omega (arith, some-words y))))
 
-module _ (y g h : Guard) (e : y ≡ and-opt g h) (o : List ℕ) (at : ℕ) (room : at + length (guardText y) ≤ length o) where
-  joined-room : at + length (guardText (and-opt g h)) ≤ length o
+module _ (y g h : Guard) (e : y ≡ and-opt g h) (o : List ℕ) (at : ℕ) (room : at + length (guard-expression y) ≤ length o) where
+  joined-room : at + length (guard-expression (and-opt g h)) ≤ length o
   joined-room = rw e at room
 
-  first-guard-room : at + length (guardText g) ≤ length o
+  first-guard-room : at + length (guard-expression g) ≤ length o
   first-guard-room =
-      let m = at + length (guardText g) in
-      let z = m + length (guardText h) in
-      let l = ap length (text-of-two g h at m z refl refl) ∙ length-append (guardText g) (guardText h ++ joining at m z) in
+      let m = at + length (guard-expression g) in
+      let z = m + length (guard-expression h) in
+      let l = ap length (text-of-two g h at m z refl refl) ∙ length-append (guard-expression g) (guard-expression h ++ joining at m z) in
       omega (arith, joined-room)
 
-  module _ {o₁ : List ℕ} {middle : ℕ} (x : Wrote o o₁ at middle (guardText g)) where
-    rooms : (end : ℕ) → end ≡ middle + length (guardText h)
-        → at + (length (guardText g) + (length (guardText h) + length (joining at middle end))) ≤ length o
+  module _ {o₁ : List ℕ} {middle : ℕ} (x : Wrote o o₁ at middle (guard-expression g)) where
+    rooms : (end : ℕ) → end ≡ middle + length (guard-expression h)
+        → at + (length (guard-expression g) + (length (guard-expression h) + length (joining at middle end))) ≤ length o
     rooms end q =
-        rw (← length-append (guardText h), ← length-append (guardText g), ← text-of-two g h at middle end (x .ends) q) joined-room
+        rw (← length-append (guard-expression h), ← length-append (guard-expression g), ← text-of-two g h at middle end (x .ends) q) joined-room
 
-    second-guard-room : middle + length (guardText h) ≤ length o₁
-    second-guard-room = omega (arith, rooms (middle + length (guardText h)) refl, x .ends, still-long x)
+    second-guard-room : middle + length (guard-expression h) ≤ length o₁
+    second-guard-room = omega (arith, rooms (middle + length (guard-expression h)) refl, x .ends, still-long x)
 
-    module _ {o₂ : List ℕ} {end : ℕ} (x₂ : Wrote o₁ o₂ middle end (guardText h)) where
+    module _ {o₂ : List ℕ} {end : ℕ} (x₂ : Wrote o₁ o₂ middle end (guard-expression h)) where
       join-room : end + length (joining at middle end) ≤ length o₂
       join-room = omega (arith, rooms end (x₂ .ends), x .ends, x₂ .ends, still-long x, still-long x₂)
 
-      guards-joined : {o₃ : List ℕ} {next : ℕ} → Wrote o₂ o₃ end next (joining at middle end) → Wrote o o₃ at next (guardText y)
+      guards-joined : {o₃ : List ℕ} {next : ℕ} → Wrote o₂ o₃ end next (joining at middle end) → Wrote o o₃ at next (guard-expression y)
       guards-joined x₃ =
-          same-words (sym (ap guardText e ∙ text-of-two g h at middle end (x .ends) (x₂ .ends)))
-          (last (go (guardText h) (joining at middle end) (go (guardText g) (guardText h ++ joining at middle end) (begin o at _) x) x₂) x₃)
+          same-words (sym (ap guard-expression e ∙ text-of-two g h at middle end (x .ends) (x₂ .ends)))
+          (last (go (guard-expression h) (joining at middle end) (go (guard-expression g) (guard-expression h ++ joining at middle end) (begin o at _) x) x₂) x₃)
 
 -- ---- as the code meets them
 
@@ -117,7 +104,7 @@ node-guard t n i = guard-text (alternatives-of t n) i
 abbrev copies-guard : List ℕ → ℕ → ℕ → ℕ → List ℕ
 copies-guard t n k i = guard-text (copies-of (alternatives-of t n) k) i
 
-module _ {t : List ℕ} {n i : ℕ} {v : Node} (o : List ℕ) (at : ℕ) (N : Numbered t n i) (room : at + length (node-guard t n i) ≤ length o) (w : v ≡ nodeAt t n) where
+module _ {t : List ℕ} {n i : ℕ} {v : Node} (o : List ℕ) (at : ℕ) (N : Numbered t n i) (room : at + length (node-guard t n i) ≤ length o) (w : v ≡ node-at t n) where
   abbrev own : Guard
   own = nth (alternatives-of t n) i .guard
 
@@ -188,7 +175,7 @@ module _ {t : List ℕ} {n i : ℕ} {v : Node} (o : List ℕ) (at : ℕ) (N : Nu
   module _ (R : Copied v i) {b : Block} (g : b ≡ copies-block t n i) where
     block-guard : node-guard t n i ≡ copies-guard t (v .p) (b .later) (b .index)
     unfolding guard-text
-    block-guard = ap (λ (y : SeqAlt). guardText (y .guard)) (nth-of-block N w R g)
+    block-guard = ap (λ (y : SeqAlt). guard-expression (y .guard)) (nth-of-block N w R g)
 
     pub block-room : at + length (copies-guard t (v .p) (b .later) (b .index)) ≤ length o
     block-room = rw block-guard at room
@@ -202,13 +189,13 @@ module _ {t : List ℕ} {n i : ℕ} {v : Node} (o : List ℕ) (at : ℕ) (N : Nu
       → Wrote o o at at (node-guard t n i)
   unfolding guard-text
   single-unguarded d g c x =
-      same-words (ap (λ (y : SeqAlt). guardText (y .guard)) (sym (single-alternative (N .node) w d g i (N .index) c x))) (nothing-written o at)
+      same-words (ap (λ (y : SeqAlt). guard-expression (y .guard)) (sym (single-alternative (N .node) w d g i (N .index) c x))) (nothing-written o at)
 
 module _ {t : List ℕ} {n k i : ℕ} (o : List ℕ) (at : ℕ) (C : NumberedCopies t n k i) (room : at + length (copies-guard t n k i) ≤ length o) where
   -- one copy
   only-guard : k ≡ 0 → copies-guard t n k i ≡ node-guard t n i
   unfolding guard-text
-  only-guard e = ap (λ (y : SeqAlt). guardText (y .guard)) (nth-of-only C e)
+  only-guard e = ap (λ (y : SeqAlt). guard-expression (y .guard)) (nth-of-only C e)
 
   pub only-room : k ≡ 0 → at + length (node-guard t n i) ≤ length o
   only-room e = rw (only-guard e) at room
@@ -252,16 +239,16 @@ module _ {t : List ℕ} {n k i : ℕ} (o : List ℕ) (at : ℕ) (C : NumberedCop
 -- ---- `guard_words`
 
 -- Nothing was written: there is no guard. Something was: the `and` is what is left.
-unclosed : (g : Guard) → length (guardText g) ≡ 0 → guardText g ≡ closedGuard g
+unclosed : (g : Guard) → length (guard-expression g) ≡ 0 → guard-expression g ≡ guard-words g
 unclosed unguarded e = refl
 unclosed (guard x) e = absurd (omega (arith, some-words x))
 
-closed : (g : Guard) → (length (guardText g) ≡ 0 → ⊥) → closedGuard g ≡ guardText g ++ (word 7 0 ∷ [])
+closed : (g : Guard) → (length (guard-expression g) ≡ 0 → ⊥) → guard-words g ≡ guard-expression g ++ (word 7 0 ∷ [])
 closed unguarded e = absurd (e refl)
 closed (guard x) e = refl
 
 -- The room for the closed guard is enough for its text.
-text-shorter : (g : Guard) → length (guardText g) ≤ length (closedGuard g)
+text-shorter : (g : Guard) → length (guard-expression g) ≤ length (guard-words g)
 text-shorter unguarded = omega arith
 text-shorter (guard x) = omega (arith, length-append (expression-words x) (word 7 0 ∷ []))
 

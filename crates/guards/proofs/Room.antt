@@ -5,7 +5,7 @@ use mathlib.Core.List.{List, [], _∷_, _++_}
 use Prim.Native.Nat.{ℕ, _+_, _*_, _≤_}
 use native.Mathlib.Omega.{arith}
 use lib.ListN.{length, length-append}
-use Rattle.meaning.specs.Tree.{Seq, treeAt}
+use Rattle.meaning.specs.Tree.{Seq, tree-at}
 use Rattle.meaning.specs.Expression.{any, a·}
 use Rattle.meaning.specs.Listing.{word, expression-words}
 use Rattle.meaning.specs.Alternative.{Guard, unguarded, guard, and-opt, SeqAlt, expand}
@@ -14,10 +14,11 @@ use Rattle.meaning.proofs.Counting.{guard-atoms-and}
 use Rattle.expand.specs.ByNumber.{alternatives-of, nth, Numbered}
 use Rattle.expand.proofs.Every.{Inherited, each-expanded, each-nth}
 use Rattle.expand.proofs.Room.{size-within-room}
-use Rattle.guards.specs.GuardText.{closedGuard, closed-guard}
+use Rattle.term.specs.Guards.{guard-words}
+use Rattle.guards.specs.GuardText.{closed-guard}
 
 -- Two guards joined have one `and` more between them, and one closing `and` less.
-length-of-two : (g h : Guard) → length (closedGuard (and-opt g h)) ≡ length (closedGuard g) + length (closedGuard h)
+length-of-two : (g h : Guard) → length (guard-words (and-opt g h)) ≡ length (guard-words g) + length (guard-words h)
 length-of-two unguarded h = omega arith
 length-of-two (guard x) unguarded = omega arith
 length-of-two (guard x) (guard y) =
@@ -28,7 +29,7 @@ length-of-two (guard x) (guard y) =
 
 -- Three words an atom.
 abbrev pub Tripled : SeqAlt → Type 0
-Tripled y = length (closedGuard (y .guard)) ≡ 3 * guard-atoms (y .guard)
+Tripled y = length (guard-words (y .guard)) ≡ 3 * guard-atoms (y .guard)
 
 tripled : Inherited Tripled
 tripled = record {
@@ -46,4 +47,4 @@ length-of-guard s i = each-nth tripled (expand s) i (each-expanded tripled s)
 pub guard-within-room : (t : List ℕ) (n i : ℕ) (N : Numbered t n i)
     → length (closed-guard (alternatives-of t n) i) ≤ 3 * N .node .room
 unfolding alternatives-of
-guard-within-room t n i N = omega (arith, length-of-guard (treeAt t n) i, size-within-room t n i N)
+guard-within-room t n i N = omega (arith, length-of-guard (tree-at t n) i, size-within-room t n i N)

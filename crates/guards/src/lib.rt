@@ -2,7 +2,6 @@
 // then the right one's, then `and` if there are both. At the top it is closed by the `and` with the expression that it guards.
 //
 // Example: the guard of `(c throughout (d throughout a))[*2]` is a3 any a2 any and a3 any a2 any and and, closed by one more and.
-ghost use mathlib.Core.Path.{_≡_};
 ghost use mathlib.Core.List.{[], _∷_};
 ghost use Prim.Native.Nat.{_+_, _≤_, _<_};
 ghost use lib.ListN.{length};

@@ -13,6 +13,7 @@ use lib.Seq.{getD-drop}
 use borrow.Author.Tests.{eq-eqb, ne-eqb, eqb-true, eqb-false, ltb-true, ltb-false, le-leb, not-true, not-false}
 use Rattle.words.specs.Choice.{pick, pick-true, pick-false, pick-case}
 use Rattle.words.proofs.Laws.{drop-here}
+use Rattle.words.proofs.Taken.{both-hold, second-holds}
 use Rattle.meaning.specs.Listing.{operation, argument, row, rows, row-of, height, is-store, registers, deepest-from, deepest}
 use Rattle.meaning.specs.Check.{argument-fits, operands-fit, word-fits, after-match, check-from, check}
 use Rattle.meaning.specs.declared.Row.{Row}
@@ -91,18 +92,6 @@ height-rises-by-one h w = omega (arith, leaves-one (operation w))
 pub store-counts-one : (w : ℕ) → pick (is-store w) 1 0 ≤ 1
 store-counts-one w = pick-case (λ (n : ℕ). n ≤ 1) (is-store w) (λ _. omega arith) (λ _. omega arith)
 
--- Both tests of a pair hold.
-pub both-hold : (a b : Bool) → pick a b false ≡ true → (a ≡ true) × (b ≡ true)
-unfolding pick
-both-hold true b e = (refl, e)
-both-hold false b e = absurd (let z : _≡_ {A = ℕ} 0 1 = cc in omega arith)
-
--- The first test fails and the second holds.
-pub second-holds : (a b : Bool) → pick a false b ≡ true → (a ≡ false) × (b ≡ true)
-unfolding pick
-second-holds true b e = absurd (let z : _≡_ {A = ℕ} 0 1 = cc in omega arith)
-second-holds false b e = (refl, e)
-
 -- What is known of a word that fits behind k stores at height h, in a slice of `count` registers.
 pub record Fitting (count k h w : ℕ) : Type 0 where
   pub fits : word-fits count k h w ≡ true
@@ -114,10 +103,10 @@ pub record Fitting (count k h w : ℕ) : Type 0 where
 pub fitting : (count k h w : ℕ) → word-fits count k h w ≡ true → Fitting count k h w
 unfolding word-fits operands-fit
 fitting count k h w e =
-    let p = second-holds (eqb (operation w) 0) _ e in
-    let q = second-holds (ltb 14 (operation w)) _ (p .1) in
-    let a = both-hold (argument-fits count k w) _ (q .1) in
-    let o = second-holds (ltb h (row-of (operation w) .takes)) _ (a .1) in
+    let p = second-holds (eqb (operation w) 0) e in
+    let q = second-holds (ltb 14 (operation w)) (p .1) in
+    let a = both-hold (argument-fits count k w) (q .1) in
+    let o = second-holds (ltb h (row-of (operation w) .takes)) (a .1) in
     record {
       fits = e;
       operand = record { known = omega (arith, eqb-false (operation w) 0 (p .0)); last = ltb-false _ _ (q .0); found = ltb-false _ _ (o .0) };
@@ -132,7 +121,7 @@ module _ {count k h w : ℕ} (f : Fitting count k h w) where
   unfolding argument-fits
   register-below q =
       let n : operation w ≡ 1 → ⊥ = λ z. omega arith in
-      ltb-true _ _ (both-hold _ _ (sym (pick-false _ _ (ne-eqb _ _ n) ∙ pick-true _ _ (eq-eqb _ _ q)) ∙ f .suits) .0)
+      ltb-true _ _ (both-hold _ (sym (pick-false _ _ (ne-eqb _ _ n) ∙ pick-true _ _ (eq-eqb _ _ q)) ∙ f .suits) .0)
 
 -- The needs of the leaves, where a callee's result stands for a definition.
 

@@ -2,10 +2,10 @@
 -- From the definitions of the walk, node by node.
 use mathlib.Core.Path.{_≡_, refl, sym, ap, _∙_}
 use mathlib.Core.List.{List}
-use Prim.Native.Nat.{ℕ, zero, suc, _+_, _-_, _/_, _<_, _≤_}
+use Prim.Native.Nat.{ℕ, zero, suc, _-_, _/_, _<_, _≤_}
 use native.Mathlib.Omega.{arith}
 use lib.ListN.{length}
-use Rattle.meaning.specs.Tree.{finite, unbounded, Seq, atom, delay, consec, goto, nonconsec, throughout, within, nodeAt, treeAt, nodes, below, root}
+use Rattle.meaning.specs.Tree.{Seq, atom, delay, consec, goto, nonconsec, throughout, within, node-at, tree-at, nodes, below, root}
 use Rattle.meaning.specs.Alternative.{expand}
 use Rattle.meaning.specs.Refusals.{counts, room-of}
 use Rattle.meaning.specs.Lowerable.{FormedTable, Walkable, WalkableRoot}
@@ -20,11 +20,11 @@ use Rattle.within.specs.Rows.{Paired}
 use Rattle.lower.specs.Stages.{RootWithin, Walks}
 
 -- A node of another kind than 7 is walked as any node below the root is.
-no-within : (t : List ℕ) (n room : ℕ) → FormedTable t → n < nodes t → (nodeAt t n .kind ≡ 7 → ⊥) → WalkableRoot room (treeAt t n) → Walkable room (treeAt t n)
+no-within : (t : List ℕ) (n room : ℕ) → FormedTable t → n < nodes t → (node-at t n .kind ≡ 7 → ⊥) → WalkableRoot room (tree-at t n) → Walkable room (tree-at t n)
 unfolding WalkableRoot
 no-within t n room formed inside other W =
     let w = formed .each n inside in
-    by-kind (nodeAt t n .kind) (w .known)
+    by-kind (node-at t n .kind) (w .known)
     (λ k. rw (at-atom t n k) (rw (at-atom t n k) at W))
     (λ k. let e = at-delay t n k (w .delay-left k) (w .delay-right k) in rw e (rw e at W))
     (λ k. let e = at-consec t n k (w .consec-under k) in rw e (rw e at W))
@@ -48,7 +48,7 @@ last-node : (count : ℕ) → 1 ≤ count → count - 1 ≡ below count
 last-node zero h = absurd (omega arith)
 last-node (suc count) h = omega arith
 
-module _ {t : List ℕ} {work : ℕ} {c : Counts} (W : Walks t work c) {v : Node} (e : v ≡ nodeAt t (length t / 5 - 1)) where
+module _ {t : List ℕ} {work : ℕ} {c : Counts} (W : Walks t work c) {v : Node} (e : v ≡ node-at t (length t / 5 - 1)) where
   abbrev n : ℕ
   n = length t / 5 - 1
 
@@ -58,12 +58,12 @@ module _ {t : List ℕ} {work : ℕ} {c : Counts} (W : Walks t work c) {v : Node
   is-inside : n < nodes t
   is-inside = omega (arith, W .formed .some)
 
-  walkable-root : WalkableRoot (room-of work) (treeAt t n)
+  walkable-root : WalkableRoot (room-of work) (tree-at t n)
   walkable-root = rw is-last (a-walked-root-is-walkable (room-of work) (root t) c (sym (W .walks)))
 
   -- A root of another kind than 7.
   module _ (other : v .kind ≡ 7 → ⊥) where
-    walkable : Walkable (room-of work) (treeAt t n)
+    walkable : Walkable (room-of work) (tree-at t n)
     walkable = no-within t n (room-of work) (W .formed) is-inside (λ k. other (rw e k)) walkable-root
 
     pub root-is-chosen : Root t n (c .alternatives) work
@@ -74,7 +74,7 @@ module _ {t : List ℕ} {work : ℕ} {c : Counts} (W : Walks t work c) {v : Node
       walkable = walkable;
       counted =
           ap (λ (x : Counts). x .alternatives) (the-walk-counts-the-root (room-of work) (root t) c (sym (W .walks)))
-          ∙ rw (← is-last) (counted-alternatives (room-of work) (treeAt t n) walkable);
+          ∙ rw (← is-last) (counted-alternatives (room-of work) (tree-at t n) walkable);
     }
 
     pub root-is-last : n ≡ below (nodes t)
@@ -82,10 +82,10 @@ module _ {t : List ℕ} {work : ℕ} {c : Counts} (W : Walks t work c) {v : Node
 
   -- A root within.
   module _ (k : v .kind ≡ 7) where
-    here : nodeAt t n .kind ≡ 7
+    here : node-at t n .kind ≡ 7
     here = rw (← e) k
 
-    pair : treeAt t n ≡ within n (treeAt t (nodeAt t n .p)) (treeAt t (nodeAt t n .q))
+    pair : tree-at t n ≡ within n (tree-at t (node-at t n .p)) (tree-at t (node-at t n .q))
     pair = at-within t n here (W .formed .each n is-inside .within-one here) (W .formed .each n is-inside .within-two here)
 
     pub root-is-within : RootWithin t (v .p) (v .q)

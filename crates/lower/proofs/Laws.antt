@@ -2,23 +2,22 @@
 -- that each return of the code is that answer.
 use mathlib.Core.Bool.{Bool, true, false}
 use mathlib.Core.Path.{_≡_, refl, sym, ap, _∙_}
-use mathlib.Core.List.{List, [], _∷_}
+use mathlib.Core.List.{List}
 use Prim.Native.Nat.{ℕ, _+_, _≤_, _<_}
-use native.Mathlib.Nat.{zero-add}
 use native.Mathlib.Omega.{arith}
 use lib.Dec.{ltb}
-use lib.ListN.{length, take, drop, replicate}
+use lib.ListN.{length, take, replicate}
 use lib.Seq.{length-take-le}
 use borrow.Author.Tests.{lt-ltb, le-ltb, ltb-true, ltb-false}
 use Rattle.words.specs.Choice.{pick, pick-true, pick-false}
-use Rattle.words.specs.Written.{written, Wrote}
-use Rattle.words.proofs.Laws.{length-written}
-use Rattle.meaning.specs.Tree.{finite, unbounded, Seq, atom, delay, consec, goto, nonconsec, throughout, within, treeAt, nodes, below, root}
+use Rattle.words.specs.Written.{Wrote}
+use Rattle.words.proofs.Laws.{length-written, front-written}
+use Rattle.meaning.specs.Tree.{Seq, atom, delay, consec, goto, nonconsec, throughout, within, tree-at, nodes, below, root}
 use Rattle.meaning.specs.Expression.{Synth}
 use Rattle.meaning.specs.Alternative.{SeqAlt, expand}
 use Rattle.meaning.specs.Root.{choice, synth-within, synth-seq-match}
 use Rattle.meaning.specs.Listing.{listing, deepest}
-use Rattle.meaning.specs.Refusals.{table, walk-root, room-of, Found, at, nowhere, first-misplaced, misplaced}
+use Rattle.meaning.specs.Refusals.{table, walk-root, room-of, nowhere, first-misplaced, misplaced}
 use Rattle.meaning.specs.Lower.{synth-of, words-of, fits, after-walk, after-table, after-nothing, lower, output-after}
 use Rattle.meaning.specs.Lowerable.{FormedTable, Walkable}
 use Rattle.meaning.specs.declared.Table.{Table}
@@ -40,7 +39,6 @@ use Rattle.choice.specs.declared.Survey.the-variants.{Misplaced, Registers}
 use Rattle.choice.proofs.Registers.{the-registers-of-a-choice}
 use Rattle.choice.proofs.Words.{the-listing-of-a-choice}
 use Rattle.choice.proofs.Surveys.{a-misplaced-alternative, no-misplaced-alternative, the-surveyed-registers}
-use Rattle.choice.proofs.Keeping.{written-part}
 use Rattle.within.specs.AllPairs.{all-registers as within-registers, within-words}
 use Rattle.within.specs.AllSizes.{words-in}
 use Rattle.within.specs.Rows.{Paired}
@@ -70,10 +68,6 @@ chosen-synth room (goto n s k) first W = refl
 chosen-synth room (nonconsec n s k) first W = refl
 chosen-synth room (throughout n c s) first W = refl
 chosen-synth room (within n s₁ s₂) first W = absurd W
-
--- Words that were put at the front are what is in front.
-pub written-in-front : {o o₁ ws : List ℕ} {end : ℕ} → Wrote o o₁ 0 end ws → length ws ≤ length o → take end o₁ ≡ ws
-written-in-front {o} {ws = ws} w room = rw (w .holds, w .ends, zero-add) (written-part o 0 ws (omega arith))
 
 -- Past 12, with the registers and the words of the tree: 13 ..
 then-fits : (t : List ℕ) (first : ℕ) {registers : ℕ} {ws : List ℕ} (out : ℕ) → misplaced (root t) ≡ nowhere → length (synth-of t first .stores) ≡ registers
@@ -112,14 +106,14 @@ module _ {t : List ℕ} {first registers : ℕ} {ws : List ℕ} (P : Placed t fi
 
       pub operands-found : OperandsFound 0 (take end out₁)
       operands-found =
-          rw (written-in-front v enough, ← P .words)
+          rw (front-written v enough, ← P .words)
           (a-lowering-finds-its-operands t first (a-formed-root-is-ranged t (P .formed)) (omega (arith, P .stored, P .few)))
 
       pub finishes-listed : {r : Lowered} → r ≡ Listing registers end (deepest (take end out₁)) → Finishes t first out r out₁
       unfolding output-after
       finishes-listed p =
           let long : end ≡ length ws = omega (arith, v .ends) in
-          let same : Listing registers end (deepest (take end out₁)) ≡ Listing registers (length ws) (deepest ws) = rw (written-in-front v enough, long) refl in
+          let same : Listing registers end (deepest (take end out₁)) ≡ Listing registers (length ws) (deepest ws) = rw (front-written v enough, long) refl in
           record {
             answers = p ∙ same ∙ sym (past-13 (length out) ∙ pick-false _ _ (le-ltb (length out) (length ws) enough));
             holds = rw (p, P .words) (v .holds);
@@ -129,11 +123,11 @@ module _ {t : List ℕ} {n count work : ℕ} (first : ℕ) (R : Root t n count w
   -- The parts of the answer, as the passes over the alternatives have them.
   the-misplaced : misplaced (root t) ≡ first-misplaced 0 (alternatives-of t n)
   unfolding alternatives-of
-  the-misplaced = rw (← e) (chosen-misplaced _ (treeAt t n) (R .walkable))
+  the-misplaced = rw (← e) (chosen-misplaced _ (tree-at t n) (R .walkable))
 
   the-synth : synth-of t first ≡ choice (alternatives-of t n) first
   unfolding alternatives-of synth-of
-  the-synth = rw (← e) (chosen-synth _ (treeAt t n) first (R .walkable))
+  the-synth = rw (← e) (chosen-synth _ (tree-at t n) first (R .walkable))
 
   the-words : words-of t first ≡ choice-words (alternatives-of t n) first
   unfolding words-of
@@ -222,9 +216,6 @@ within-counted xs ys first q = q ∙ sym (the-words-of-a-within xs ys first)
 
 pub within-room : (xs ys : List SeqAlt) (first : ℕ) (out : List ℕ) {words : ℕ} → words ≡ words-in xs ys → words ≤ length out → length (within-words xs ys first) ≤ length out
 within-room xs ys first out q h = omega (arith, within-counted xs ys first q)
-
-pub paired-again : {t : List ℕ} {one two work work₁ : ℕ} → Paired t one two work → work₁ ≡ work → Paired t one two work₁
-paired-again Q e = rw e Q
 
 -- The whole: what the checks of the table and the walk answer is handed up.
 module _ (t : List ℕ) (first work : ℕ) (out : List ℕ) {table-is : Table} (p : table-is ≡ table t) where

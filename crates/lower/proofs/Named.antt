@@ -1,15 +1,13 @@
 -- What a lowering names: atoms below 65,536, where its alternatives have no others, and registers below the one after its
 -- last. From function to function of the source, each of which adds registers behind those it was given.
-use mathlib.Core.Bool.{true, false}
-use mathlib.Core.Path.{_≡_, refl}
 use mathlib.Core.List.{List, [], _∷_, _++_}
 use Prim.Native.Nat.{ℕ, zero, suc, _+_, _-_, _≤_, _<_}
 use native.Mathlib.Omega.{arith}
 use lib.Dec.{leb}
 use lib.ListN.{length, length-append}
-use Rattle.words.specs.Choice.{pick, pick-case}
+use Rattle.words.specs.Choice.{pick-case}
 use Rattle.meaning.specs.Tree.{below}
-use Rattle.meaning.specs.Expression.{Expr, a·, r·, zero·, one·, any, not·, and·, or·, Store, Synth, synth, andThen}
+use Rattle.meaning.specs.Expression.{Expr, a·, r·, zero·, one·, any, not·, and·, or·, Store, Synth, synth, chained}
 use Rattle.meaning.specs.Alternative.{Guard, unguarded, guard, SeqAlt}
 use Rattle.meaning.specs.Machines.{bb, goto-stages, goto-fsm, nonconsec-fsm, extension, run-stages}
 use Rattle.meaning.specs.Pipeline.{guard-and, delays, latch, hop-over, apply-term, seed, later, laters, synth-seq-pipeline}
@@ -19,7 +17,7 @@ use Rattle.meaning.specs.declared.SeqTerm.the-variants.{Bool as BoolTerm, Goto,
 use Rattle.meaning.specs.declared.SeqHop.{SeqHop}
 use Rattle.meaning.specs.declared.SeqHop.the-variants.{Fixed, AtLeast}
 use Rattle.meaning.specs.declared.SeqStep.{SeqStep}
-use Rattle.choice.proofs.SmallAtoms.{Names, SmallTerm, SmallSteps, SmallGuard, SmallAlternative, SmallAlternatives}
+use Rattle.choice.proofs.SmallAtoms.{Names, SmallTerm, SmallSteps, SmallGuard, SmallAlternatives}
 
 -- Many expressions, and what a function of the source leaves.
 abbrev pub AllName : ℕ → List Expr → Type 0
@@ -54,10 +52,10 @@ module _ (R : ℕ) where
   stores-append-name (x ∷ xs) ys p q = (p .0, stores-append-name xs ys (p .1) q)
 
   -- One function, then another, with room for the registers of both.
-  then-names : (n : ℕ) (o : Synth) (f : ℕ → Expr → Synth) → n + length (andThen n o f .stores) ≤ R
+  then-names : (n : ℕ) (o : Synth) (f : ℕ → Expr → Synth) → n + length (chained n o f .stores) ≤ R
       → (n + length (o .stores) ≤ R → SynthNames R o)
       → ((k : ℕ) (e : Expr) → k + length (f k e .stores) ≤ R → Names R e → SynthNames R (f k e))
-      → SynthNames R (andThen n o f)
+      → SynthNames R (chained n o f)
   then-names n o f room first second =
       let both = length-append (o .stores) (f (n + length (o .stores)) (o .cur) .stores) in
       let one = first (omega arith) in
@@ -119,7 +117,7 @@ module _ (R : ℕ) where
   term-names Empty small n e room p = (tt, tt)
 
   hop-term-names : (g : Guard) (x : SeqTerm) (h : SeqHop) (n : ℕ) (e : Expr) → SmallGuard g → SmallTerm x
-      → n + length (andThen n (hop-over g h n e) (apply-term x) .stores) ≤ R → Names R e → SynthNames R (andThen n (hop-over g h n e) (apply-term x))
+      → n + length (chained n (hop-over g h n e) (apply-term x) .stores) ≤ R → Names R e → SynthNames R (chained n (hop-over g h n e) (apply-term x))
   hop-term-names g x h n e G small room p = then-names n (hop-over g h n e) (apply-term x) room (λ l. hop-names g h n e G l p) (term-names x small)
 
   later-names : (g : Guard) (x : SeqTerm) (h : SeqHop) (n : ℕ) (e : Expr) → SmallGuard g → SmallTerm x → n + length (later g x h n e .stores) ≤ R

@@ -2,17 +2,17 @@
 -- it away. So the deepest stack of the written words can be counted.
 use mathlib.Core.Path.{_≡_, refl}
 use mathlib.Core.List.{List, [], _∷_, _++_, append-assoc}
-use Prim.Native.Nat.{ℕ, zero, suc, _+_, _-_, _*_, _/_, _≤_, _<_}
+use Prim.Native.Nat.{ℕ, suc, _+_, _-_, _≤_, _<_}
 use native.Mathlib.Omega.{arith}
-use lib.ListN.{length, getD}
+use lib.ListN.{length}
 use Rattle.meaning.specs.Tree.{Seq, atom, delay, consec, goto, nonconsec, throughout, within, root}
 use Rattle.meaning.specs.Expression.{Expr, a·, r·, zero·, one·, any, not·, and·, or·, Tag, seq, arm, gto, ncx, crl, Store, Synth}
 use Rattle.meaning.specs.Alternative.{expand}
 use Rattle.meaning.specs.Root.{synth-seq-match}
-use Rattle.meaning.specs.Listing.{word, operation, rows, row-of, height, store-operation, expression-words, store-words, listing}
+use Rattle.meaning.specs.Listing.{word, operation, rows, row-of, store-operation, expression-words, store-words, listing}
 use Rattle.meaning.specs.Lower.{synth-of, words-of}
 use Rattle.meaning.specs.Lowerable.{Ranged}
-use Rattle.listing.specs.Operands.{OperandFound, OperandsFound}
+use Rattle.listing.specs.Operands.{OperandsFound}
 use Rattle.choice.proofs.SmallAtoms.{Names, small-alternatives}
 use Rattle.lower.proofs.Named.{StoresName, SynthNames, a-choice-names, a-within-names}
 

@@ -4,7 +4,7 @@ use mathlib.Core.Path.{_≡_}
 use mathlib.Core.List.{List}
 use Prim.Native.Nat.{ℕ, _+_, _≤_}
 use lib.ListN.{length}
-use Rattle.meaning.specs.Tree.{within, treeAt, root}
+use Rattle.meaning.specs.Tree.{within, tree-at, root}
 use Rattle.meaning.specs.Refusals.{walk-root, room-of, nowhere, misplaced}
 use Rattle.meaning.specs.Lower.{synth-of, words-of}
 use Rattle.meaning.specs.Lowerable.{FormedTable}
@@ -59,7 +59,7 @@ pub record PlacedWithin (t : List ℕ) (one two first registers work : ℕ) : Ty
 -- The root is a within of the nodes one and two.
 pub record RootWithin (t : List ℕ) (one two : ℕ) : Type 0 where
   pub number : ℕ
-  pub is : root t ≡ within number (treeAt t one) (treeAt t two)
+  pub is : root t ≡ within number (tree-at t one) (tree-at t two)
 
 -- A table that the walk counted, with so much work.
 pub record Walks (t : List ℕ) (work : ℕ) (c : Counts) : Type 0 where

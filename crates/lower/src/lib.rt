@@ -4,14 +4,13 @@
 //
 // Example: the words of `a ##1 b` with 32 words of work and 8 of output give Listing(1, 8, 2); with 7 of output, Refused(14, 0).
 ghost use mathlib.Core.Path.{_≡_};
-ghost use mathlib.Core.Bool.{Bool};
-ghost use Prim.Native.Nat.{_+_, _≤_, _<_};
+ghost use Prim.Native.Nat.{_+_, _≤_};
 ghost use lib.Dec.{ltb};
 ghost use lib.ListN.{length, take};
 ghost use Rattle.listing.specs.Operands.{OperandsFound};
 ghost use Rattle.meaning.specs.Listing.{deepest};
 ghost use Rattle.meaning.specs.declared.Lowered.the-variants.{Listing};
-ghost use Rattle.meaning.specs.Tree.{nodes, below, nodeAt};
+ghost use Rattle.meaning.specs.Tree.{nodes, below};
 ghost use Rattle.choice.specs.Passes.{Root};
 ghost use Rattle.within.specs.Rows.{Paired};
 ghost use Rattle.lower.specs.Answers.{Lowers, Answers, Finishes};

@@ -7,7 +7,7 @@ use borrow.Author.Tests.{lt-ltb, le-ltb, eq-eqb, ne-eqb}
 use lib.ListN.{length, take, drop}
 use lib.Seq.{take-all, take-append-seam, length-take-le}
 use Rattle.words.specs.Written.{Wrote}
-use Rattle.words.proofs.Laws.{length-written, spliced, same-words}
+use Rattle.words.proofs.Laws.{length-written, front-written, same-words}
 use Rattle.meaning.specs.Lower.{words-of, lower, output-after}
 use Rattle.meaning.specs.declared.Lowered.{Lowered}
 use Rattle.meaning.specs.declared.Lowered.the-variants.{Listing, Refused}
@@ -19,12 +19,6 @@ use Rattle.text.proofs.ListingLines.{answer-few}
 use Rattle.little_endian.specs.Bytes.{words-of-bytes}
 use Rattle.little_endian.proofs.Laws.{words-take-four-bytes}
 use Rattle.lowered_text.specs.Page.{page-text, input-text}
-
--- What was written from the front on is what a part of that length has.
-pub front-written : {o o′ : List ℕ} {n : ℕ} {ws : List ℕ} → Wrote o o′ 0 n ws → length ws ≤ length o → take n o′ ≡ ws
-front-written {o} {o′} {n} {ws} w h =
-    let n-is : n ≡ length ws = omega (arith, w .ends) in
-    rw (n-is, w .holds, spliced o 0 ws (omega arith)) (take-append-seam ws (drop (0 + length ws) o))
 
 -- A listing is as long as its answer says, and fits the output.
 listed-fits : (answer : Lowered) (t : List ℕ) (work out : ℕ) → lower t work out 0 ≡ answer → words-listed answer ≤ out

@@ -5,7 +5,7 @@ use Prim.Native.Nat.{ℕ}
 use lib.ListN.{replicate}
 use Rattle.words.specs.Choice.{pick}
 use Rattle.words.specs.Written.{written}
-use Rattle.meaning.specs.Tree.{nodeAt, treeAt, unlimited}
+use Rattle.meaning.specs.Tree.{node-at, tree-at, unlimited}
 use Rattle.meaning.specs.Listing.{word, rows, row-of, deepest, deepest-from}
 use Rattle.meaning.specs.Refusals.{lowest-failing, formed-node, uses-in, uses, range-node, table, limited, and-then, deep-enough, over-boolean, walk-in, walk, limited-within, walk-root, room-of, first-misplaced, misplaced}
 use Rattle.meaning.specs.Lower.{synth-of, words-of, fits, after-walk, after-table, after-nothing, lower, output-after}
@@ -126,5 +126,5 @@ found row =
     result answer (output-after answer (row .tree) 0 lent)
 
 pub the-starred-rows-hold : map found starred ≡ map stated starred
-unfolding starred lower after-nothing table lowest-failing formed-node uses-in uses range-node nodeAt treeAt after-table walk-root walk walk-in deep-enough limited and-then over-boolean limited-within room-of misplaced first-misplaced after-walk synth-of words-of fits rows row-of deepest deepest-from output-after written pick
+unfolding starred lower after-nothing table lowest-failing formed-node uses-in uses range-node node-at tree-at after-table walk-root walk walk-in deep-enough limited and-then over-boolean limited-within room-of misplaced first-misplaced after-walk synth-of words-of fits rows row-of deepest deepest-from output-after written pick
 the-starred-rows-hold = refl

@@ -9,7 +9,7 @@ use lib.ListN.{length, length-append}
 use Rattle.words.specs.Choice.{pick-case}
 use Rattle.meaning.specs.Tree.{finite, unbounded, Seq, atom, delay, consec, goto, nonconsec, throughout, within, operand, below}
 use Rattle.meaning.specs.Lowerable.{Ranged}
-use Rattle.meaning.specs.Expression.{Expr, a·, r·, one·, any, and·, or·, seq, arm, gto, ncx, crl, Store, store, Synth, synth, also, andThen}
+use Rattle.meaning.specs.Expression.{Expr, a·, r·, one·, any, and·, or·, seq, arm, gto, ncx, crl, Store, store, Synth, synth, also, chained}
 use Rattle.meaning.specs.Alternative.{Guard, unguarded, guard, and-opt, SeqAlt, step, single, rehop, join-rights, join-lefts, join-hops, hops, copies, copies-from, with-empty, over, consec-unbounded, guard-each, expand}
 use Rattle.meaning.specs.Machines.{bb, nbb, goto-stages, goto-fsm, extension, nonconsec-fsm, run-stages}
 use Rattle.meaning.specs.Pipeline.{guard-and, delays, latch, hop-over, apply-term, seed, later, laters, synth-seq-pipeline}
@@ -66,7 +66,7 @@ module _ (R : ℕ) where
 
   -- The one function, then the other on its expression.
   then-bounded : (n : ℕ) (o : Synth) (f : ℕ → Expr → Synth) → Bounded n o → ((m : ℕ) → Small (o .cur) → Bounded m (f m (o .cur)))
-      → Bounded n (andThen n o f)
+      → Bounded n (chained n o f)
   then-bounded n o f p q l =
       let m = n + length (o .stores) in
       let (room, room′) = room-parts (o .stores) (f m (o .cur) .stores) n l in
@@ -140,7 +140,7 @@ module _ (R : ℕ) where
   module _ (g : Guard) (p : GuardSmall g) where
     -- A later term that is not Empty.
     term-bounded : (x : SeqTerm) → TermSmall x → (h : SeqHop) (n : ℕ) (e : Expr) → Small e
-        → Bounded n (andThen n (hop-over g h n e) (apply-term x))
+        → Bounded n (chained n (hop-over g h n e) (apply-term x))
     term-bounded x s h n e q =
         let o = hop-over g h n e in
         then-bounded n o (apply-term x) (hop-bounded g p h n e q) (λ m q′. apply-bounded x s m (o .cur) q′)

@@ -1,20 +1,16 @@
 -- How many alternatives a node has and how many entries they take, from the counts of its operands: "counts multiply: hops
 -- times left times right". (Whether all are plain and whether one is guarded: proofs/Flags.antt.)
-use mathlib.Core.Bool.{Bool, true, false}
-use mathlib.Core.Path.{_≡_, refl, sym, ap, ap₂, _∙_}
+use mathlib.Core.Path.{_≡_, refl, ap, ap₂, _∙_}
 use mathlib.Core.List.{List, [], _∷_, _++_}
-use Prim.Native.Nat.{ℕ, zero, suc, _+_, _*_, _-_, _≤_, _<_}
+use Prim.Native.Nat.{ℕ, zero, suc, _+_, _*_, _-_}
 use native.Mathlib.Omega.{arith}
 use lib.ListN.{length, length-append}
-use Rattle.words.specs.Choice.{pick}
 use Rattle.meaning.specs.Tree.{Max, finite, unbounded, below}
-use Rattle.meaning.specs.Expression.{Expr, a·, any, and·}
-use Rattle.meaning.specs.Alternative.{Guard, unguarded, guard, and-opt, SeqAlt, single, rehop, joined, join-rights, join-lefts, join-hops, fixed-from, hops, copies, copies-from, with-empty, consec-finite, guard-each}
-use Rattle.meaning.specs.Refusals.{atoms-in, guard-atoms, entries, is-bool, is-fixed, plain-steps, plain, has-guard, guarded}
-use Rattle.meaning.specs.declared.SeqTerm.{SeqTerm}
-use Rattle.meaning.specs.declared.SeqTerm.the-variants.{Empty}
+use Rattle.meaning.specs.Expression.{a·, any}
+use Rattle.meaning.specs.Alternative.{Guard, unguarded, guard, and-opt, SeqAlt, rehop, joined, join-rights, join-lefts, join-hops, fixed-from, hops, copies, copies-from, with-empty, consec-finite, guard-each}
+use Rattle.meaning.specs.Refusals.{guard-atoms, entries}
 use Rattle.meaning.specs.declared.SeqHop.{SeqHop}
-use Rattle.meaning.specs.declared.SeqHop.the-variants.{Fixed, AtLeast}
+use Rattle.meaning.specs.declared.SeqHop.the-variants.{Fixed}
 use Rattle.meaning.specs.declared.SeqStep.{SeqStep}
 
 -- Alternatives and entries together: they are counted in one walk.

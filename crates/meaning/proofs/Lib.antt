@@ -18,7 +18,6 @@ pub mod RootRuns
 pub mod Windows
 pub mod WithinRuns
 pub mod MatchRuns
-pub mod Taken
 pub mod Nodes
 pub mod Formed
 pub mod Ranges

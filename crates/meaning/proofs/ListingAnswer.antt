@@ -20,7 +20,7 @@ use Rattle.meaning.specs.declared.Counts.{Counts}
 use Rattle.meaning.specs.declared.Walked.{Walked}
 use Rattle.meaning.specs.declared.Walked.the-variants.{Counted, Refused as Stopped}
 use Rattle.meaning.specs.declared.Lowered.the-variants.{Listing, Refused}
-use Rattle.meaning.proofs.Taken.{second-taken}
+use Rattle.words.proofs.Taken.{second-taken}
 use Rattle.meaning.proofs.Formed.{a-formed-table}
 use Rattle.meaning.proofs.Ranges.{a-formed-root-is-ranged}
 use Rattle.meaning.proofs.Walks.{a-walked-root-is-walkable}

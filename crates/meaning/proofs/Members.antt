@@ -150,6 +150,11 @@ pub over-a-boolean : (o : Operand) → IsBoolean o → (f : ℕ → List SeqAlt)
 over-a-boolean (boolean b) B f P p = p b
 over-a-boolean other B f P p = absurd B
 
+-- One less, and 0 of 0.
+pub below-is-one-less : (m : ℕ) → below m ≡ m - 1
+below-is-one-less zero = refl
+below-is-one-less (suc m) = omega arith
+
 -- max(m,1) is `suc (below m)`: it is not above n where m is not and n is 1 or more; it is not below m; and it is m from 1 on.
 pub below-is-less : (m n : ℕ) → m ≤ suc n → below m < suc n
 below-is-less zero n l = omega arith

@@ -12,7 +12,7 @@ use native.Mathlib.Decide.{decLe}
 use lib.ListN.{length}
 use lib.Dec.{T}
 use Rattle.meaning.specs.Match.{Runs, Join}
-use Rattle.meaning.specs.Expression.{Expr, one·, Synth, andThen}
+use Rattle.meaning.specs.Expression.{Expr, one·, Synth, chained}
 use Rattle.meaning.specs.Alternative.{Guard, unguarded, guard}
 use Rattle.meaning.specs.Machines.{bb}
 use Rattle.meaning.specs.Pipeline.{guard-and, delays, hop-over, apply-term, seed, later, laters, synth-seq-pipeline}
@@ -74,8 +74,8 @@ module _ (σ Reg : ℕ → ℕ → Bool) where
 
   -- The hop and then a term that is no Empty.
   a-later-term-marks : (g : Guard) (x : SeqTerm) (h : SeqHop) → NotEmpty x → BoolIfGuarded g x → FixedIfGuarded g h
-      → (n : ℕ) (e : Expr) → Drives σ Reg n (andThen n (hop-over g h n e) (apply-term x) .stores) → (R : Runs) → NoEmptyRun R → MarksEnds g e R
-      → MarksEnds g (andThen n (hop-over g h n e) (apply-term x) .cur) (JoinOver h R (TermRuns σ x))
+      → (n : ℕ) (e : Expr) → Drives σ Reg n (chained n (hop-over g h n e) (apply-term x) .stores) → (R : Runs) → NoEmptyRun R → MarksEnds g e R
+      → MarksEnds g (chained n (hop-over g h n e) (apply-term x) .cur) (JoinOver h R (TermRuns σ x))
   a-later-term-marks g x h N B F n e D R P M t = (outward, inward)
     where
       o : Synth

@@ -15,7 +15,7 @@ use Rattle.meaning.specs.declared.SeqTerm.the-variants.{Bool as BoolTerm
 use Rattle.meaning.specs.declared.SeqHop.{SeqHop}
 use Rattle.meaning.specs.declared.SeqHop.the-variants.{Fixed, AtLeast}
 use Rattle.meaning.specs.declared.SeqStep.{SeqStep}
-use Rattle.meaning.proofs.Taken.{first-taken, second-taken, false-is-not-true, both-hold}
+use Rattle.words.proofs.Taken.{first-taken, second-taken, false-is-not-true, both-hold}
 use Rattle.meaning.proofs.Acceptable.{IsBool, IsEmpty, NotEmpty, IsFixed, FixedFrom1, Plain, EmptiesFit, Rule7, Rule12, Rule9, Rules9, Regular}
 use Rattle.meaning.proofs.Members.{guarded-by, in-guard-each}
 use Rattle.meaning.proofs.EveryAlternative.{Every, no-guards, HasStep, has-step}

@@ -1,7 +1,7 @@
 -- Alternatives: what a tree expands to (01, "Alternatives"; `expand_sequence_inner` of the source).
 -- Example: `a ##[1:2] b` has two, [a, b after 1] and [a, b after 2].
 use mathlib.Core.List.{List, [], _∷_, _++_}
-use Prim.Native.Nat.{ℕ, zero, suc, _+_, _-_}
+use Prim.Native.Nat.{ℕ, zero, suc, _-_}
 use Rattle.meaning.specs.Tree.{Max, finite, unbounded, Seq, atom, delay, consec, goto, nonconsec, throughout, within, Operand, boolean, other, operand, below}
 use Rattle.meaning.specs.Expression.{Expr, a·, any, and·}
 use Rattle.meaning.specs.declared.SeqTerm.{SeqTerm}

@@ -3,7 +3,7 @@
 use mathlib.Core.List.{List, [], _∷_}
 use Prim.Native.Nat.{ℕ, zero, suc}
 use Rattle.meaning.specs.Tree.{below}
-use Rattle.meaning.specs.Expression.{Expr, r·, zero·, one·, and·, or·, seq, arm, store, Synth, synth, also, andThen}
+use Rattle.meaning.specs.Expression.{Expr, r·, zero·, one·, and·, or·, seq, arm, store, Synth, synth, also, chained}
 use Rattle.meaning.specs.Alternative.{Guard, unguarded, guard}
 use Rattle.meaning.specs.Machines.{bb, goto-fsm, nonconsec-fsm, consec-run-fsm}
 use Rattle.meaning.specs.declared.SeqTerm.{SeqTerm}
@@ -34,7 +34,7 @@ latch-or-now n e = synth (store arm (or· (r· n) e) ∷ []) (or· (r· n) e)
 abbrev pub hop-over : Guard → SeqHop → ℕ → Expr → Synth
 hop-over g (Fixed d) n e = delays g d n e
 hop-over g (AtLeast zero) n e = latch-or-now n e
-hop-over g (AtLeast (suc m)) n e = andThen n (delays unguarded m n e) latch
+hop-over g (AtLeast (suc m)) n e = chained n (delays unguarded m n e) latch
 
 -- The source's last `match term`: a later term on its activation. Empty never gets here (`unreachable!`).
 abbrev pub apply-term : SeqTerm → ℕ → Expr → Synth
@@ -54,19 +54,19 @@ seed Empty n = synth [] zero·
 
 -- A later step: the hop, then the term. "Empty after a fixed d >= 1 takes d - 1 delays"; its other hops are refused with 12.
 abbrev pub later : Guard → SeqTerm → SeqHop → ℕ → Expr → Synth
-later g (BoolTerm a) h n e = andThen n (hop-over g h n e) (apply-term (BoolTerm a))
-later g (Goto b k) h n e = andThen n (hop-over g h n e) (apply-term (Goto b k))
-later g (Nonconsec b k) h n e = andThen n (hop-over g h n e) (apply-term (Nonconsec b k))
-later g (ConsecAtLeast b k) h n e = andThen n (hop-over g h n e) (apply-term (ConsecAtLeast b k))
+later g (BoolTerm a) h n e = chained n (hop-over g h n e) (apply-term (BoolTerm a))
+later g (Goto b k) h n e = chained n (hop-over g h n e) (apply-term (Goto b k))
+later g (Nonconsec b k) h n e = chained n (hop-over g h n e) (apply-term (Nonconsec b k))
+later g (ConsecAtLeast b k) h n e = chained n (hop-over g h n e) (apply-term (ConsecAtLeast b k))
 later g Empty (Fixed d) n e = delays g (below d) n e
 later g Empty (AtLeast m) n e = synth [] e
 
 abbrev pub laters : Guard → List SeqStep → ℕ → Expr → Synth
 laters g [] n e = synth [] e
-laters g (s ∷ ss) n e = andThen n (later g (s .term) (s .hop) n e) (laters g ss)
+laters g (s ∷ ss) n e = chained n (later g (s .term) (s .hop) n e) (laters g ss)
 
 -- `synth_seq_pipeline`. "Guards are ANDed to the seed and after each delay register of a fixed hop."
 abbrev pub synth-seq-pipeline : Guard → List SeqStep → ℕ → Synth
 synth-seq-pipeline g [] n = synth [] zero·
 synth-seq-pipeline g (s ∷ ss) n =
-    let o = seed (s .term) n in andThen n (synth (o .stores) (guard-and g (o .cur))) (laters g ss)
+    let o = seed (s .term) n in chained n (synth (o .stores) (guard-and g (o .cur))) (laters g ss)

@@ -6,7 +6,7 @@ use lib.Dec.{leb}
 use lib.ListN.{length}
 use Rattle.words.specs.Choice.{pick}
 use Rattle.meaning.specs.Tree.{Seq, atom, delay, consec, goto, nonconsec, throughout, within}
-use Rattle.meaning.specs.Expression.{Expr, a·, r·, zero·, any, and·, or·, seq, Store, store, Synth, synth, also, andThen}
+use Rattle.meaning.specs.Expression.{Expr, a·, r·, zero·, any, and·, or·, seq, Store, store, Synth, synth, also, chained}
 use Rattle.meaning.specs.Alternative.{Guard, unguarded, guard, SeqAlt, step, expand}
 use Rattle.meaning.specs.Pipeline.{synth-seq-pipeline}
 use Rattle.meaning.specs.declared.SeqTerm.{SeqTerm}
@@ -80,7 +80,7 @@ slide n (suc d) acc cur = also (store seq cur) (slide (suc n) d (or· acc (r· n
 -- One pair: match_2 & (match_1 at one of the last l - k1 + 1 ticks). Seq1's pipeline is built anew for each pair.
 abbrev pub fitting-pair : ℕ → Expr → List SeqStep → ℕ → Synth
 fitting-pair l match-2 s₁ n =
-    let o = andThen n (synth-seq-pipeline unguarded s₁ n) (λ n′ match-1. slide n′ (l - window-len s₁) match-1 match-1) in
+    let o = chained n (synth-seq-pipeline unguarded s₁ n) (λ n′ match-1. slide n′ (l - window-len s₁) match-1 match-1) in
     synth (o .stores) (and· match-2 (o .cur))
 
 -- "then each of seq1 that fits (window k1 not above l)"

@@ -13,12 +13,13 @@ use Rattle.meaning.specs.Alternative.{unguarded}
 use Rattle.meaning.specs.Pipeline.{synth-seq-pipeline}
 use Rattle.meaning.specs.Listing.{expression-words, store-words}
 use Rattle.meaning.specs.declared.SeqStep.{SeqStep}
-use Rattle.current.specs.Text.{nthStep, Stored, registersAt, registersBefore, textAt}
+use Rattle.term.specs.Steps.{nth-step, Stored, steps-from}
+use Rattle.current.specs.Text.{registers-at, registers-before, text-at}
 use Rattle.current.specs.Walk.{Ready}
 use Rattle.current.proofs.Bridge.{the-current-expression-is-the-text, the-registers-are-counted, register-next}
-use Rattle.pipeline.specs.Stores.{alternativeStores, ReadyAll}
+use Rattle.pipeline.specs.Stores.{alternative-store-words, ReadyAll}
 use Rattle.pipeline.proofs.Bridge.{the-stores-are-the-words}
-use Rattle.pair.specs.Stored.{steps-from, count-in, steps-in, Kept}
+use Rattle.pair.specs.Stored.{count-in, steps-in, Kept}
 use Rattle.pair.specs.Pairs.{registers-in, stores-in, text-in}
 
 -- The steps of a slice are those that are read from it.
@@ -36,38 +37,38 @@ module _ {words : List ℕ} (K : Kept words) where
   abbrev later : List SeqStep
   later = steps-from words 1 (count-in words - 1)
 
-  steps-split : steps-in words ≡ nthStep words 0 ∷ later
+  steps-split : steps-in words ≡ nth-step words 0 ∷ later
   unfolding steps-in steps-from
   steps-split = let e : count-in words ≡ suc (count-in words - 1) = omega (arith, K .some) in ap (steps-from words 0) e
 
-  stored : Stored words 0 (nthStep words 0 ∷ later)
+  stored : Stored words 0 (nth-step words 0 ∷ later)
   stored = (refl, stored-from words 1 (count-in words - 1))
 
-  steps-counted : length (nthStep words 0 ∷ later) ≡ count-in words
+  steps-counted : length (nth-step words 0 ∷ later) ≡ count-in words
   steps-counted = omega (arith, K .some, length-steps-from words 1 (count-in words - 1))
 
-  pub registers-are : registers-in (steps-in words) ≡ registersBefore words (count-in words)
+  pub registers-are : registers-in (steps-in words) ≡ registers-before words (count-in words)
   unfolding registers-in
   registers-are =
       ap (λ (ss : List SeqStep). length (synth-seq-pipeline unguarded ss 0 .stores)) steps-split
-      ∙ the-registers-are-counted words unguarded (nthStep words 0) later 0 stored
-      ∙ ap (registersBefore words) steps-counted
+      ∙ the-registers-are-counted words unguarded (nth-step words 0) later 0 stored
+      ∙ ap (registers-before words) steps-counted
 
-  pub stores-are : (n : ℕ) → stores-in (steps-in words) n ≡ alternativeStores words [] (count-in words) n
+  pub stores-are : (n : ℕ) → stores-in (steps-in words) n ≡ alternative-store-words words [] (count-in words) n
   unfolding stores-in
   stores-are n =
       ap (λ (ss : List SeqStep). store-words n (synth-seq-pipeline unguarded ss n .stores)) steps-split
-      ∙ the-stores-are-the-words words unguarded (nthStep words 0) later n stored
-      ∙ ap (λ (c : ℕ). alternativeStores words [] c n) steps-counted
+      ∙ the-stores-are-the-words words unguarded (nth-step words 0) later n stored
+      ∙ ap (λ (c : ℕ). alternative-store-words words [] c n) steps-counted
 
-  pub text-is : (n : ℕ) → text-in (steps-in words) n ≡ textAt words [] (count-in words - 1) (n + registersBefore words (count-in words - 1))
+  pub text-is : (n : ℕ) → text-in (steps-in words) n ≡ text-at words [] (count-in words - 1) (n + registers-before words (count-in words - 1))
   unfolding text-in
   text-is n =
       ap (λ (ss : List SeqStep). expression-words (synth-seq-pipeline unguarded ss n .cur)) steps-split
-      ∙ the-current-expression-is-the-text words unguarded (nthStep words 0) later n stored
-      ∙ ap (λ (c : ℕ). textAt words [] c (n + registersBefore words c)) (length-steps-from words 1 (count-in words - 1))
+      ∙ the-current-expression-is-the-text words unguarded (nth-step words 0) later n stored
+      ∙ ap (λ (c : ℕ). text-at words [] c (n + registers-before words c)) (length-steps-from words 1 (count-in words - 1))
 
-  pub registers-counted : {r : ℕ} → r ≡ registersBefore words (count-in words) → r ≡ registers-in (steps-in words)
+  pub registers-counted : {r : ℕ} → r ≡ registers-before words (count-in words) → r ≡ registers-in (steps-in words)
   registers-counted e = e ∙ sym registers-are
 
   module _ (n : ℕ) where
@@ -80,17 +81,17 @@ module _ {words : List ℕ} (K : Kept words) where
       registers = omega (arith, registers-are);
     }
 
-    pub stores-room : (at : ℕ) {size : ℕ} → at + length (stores-in (steps-in words) n) ≤ size → at + length (alternativeStores words [] (count-in words) n) ≤ size
+    pub stores-room : (at : ℕ) {size : ℕ} → at + length (stores-in (steps-in words) n) ≤ size → at + length (alternative-store-words words [] (count-in words) n) ≤ size
     stores-room at room = rw (← stores-are n) room
 
-    pub stores-written : {o o₁ : List ℕ} {at p : ℕ} → Wrote o o₁ at p (alternativeStores words [] (count-in words) n) → Wrote o o₁ at p (stores-in (steps-in words) n)
+    pub stores-written : {o o₁ : List ℕ} {at p : ℕ} → Wrote o o₁ at p (alternative-store-words words [] (count-in words) n) → Wrote o o₁ at p (stores-in (steps-in words) n)
     stores-written w = same-words (sym (stores-are n)) w
 
-    module _ {r : ℕ} (e : r ≡ registersBefore words (count-in words - 1)) where
-      last-register : registersBefore words (count-in words) ≡ r + registersAt words (count-in words - 1)
+    module _ {r : ℕ} (e : r ≡ registers-before words (count-in words - 1)) where
+      last-register : registers-before words (count-in words) ≡ r + registers-at words (count-in words - 1)
       last-register =
           let c : suc (count-in words - 1) ≡ count-in words = omega (arith, K .some) in
-          ap (registersBefore words) (sym c) ∙ omega (arith, register-next words 0 (count-in words - 1))
+          ap (registers-before words) (sym c) ∙ omega (arith, register-next words 0 (count-in words - 1))
 
       module _ (small : n + registers-in (steps-in words) ≤ 65536) where
         pub text-before-fits : Fits w32 r
@@ -108,11 +109,11 @@ module _ {words : List ℕ} (K : Kept words) where
           high = omega (arith, registers-are, last-register);
         }
 
-      text-with : text-in (steps-in words) n ≡ textAt words [] (count-in words - 1) (n + r)
+      text-with : text-in (steps-in words) n ≡ text-at words [] (count-in words - 1) (n + r)
       text-with = text-is n ∙ rw (← e) refl
 
-      pub text-room : (at : ℕ) {size : ℕ} → at + length (text-in (steps-in words) n) ≤ size → at + length (textAt words [] (count-in words - 1) (n + r)) ≤ size
+      pub text-room : (at : ℕ) {size : ℕ} → at + length (text-in (steps-in words) n) ≤ size → at + length (text-at words [] (count-in words - 1) (n + r)) ≤ size
       text-room at room = rw (← text-with) room
 
-      pub text-written : {o o₁ : List ℕ} {at p : ℕ} → Wrote o o₁ at p (textAt words [] (count-in words - 1) (n + r)) → Wrote o o₁ at p (text-in (steps-in words) n)
+      pub text-written : {o o₁ : List ℕ} {at p : ℕ} → Wrote o o₁ at p (text-at words [] (count-in words - 1) (n + r)) → Wrote o o₁ at p (text-in (steps-in words) n)
       text-written w = same-words (sym text-with) w

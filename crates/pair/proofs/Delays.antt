@@ -1,4 +1,4 @@
--- The two loops over the further delays of a pair, in rest form: what remains to be written after k of them.
+-- The loop over the further delays of a pair, in rest form: what remains to be written after k of them.
 use mathlib.Core.Path.{_≡_, refl}
 use mathlib.Core.List.{List, [], _∷_}
 use Prim.Native.Nat.{ℕ, zero, suc, _+_, _*_, _-_, _<_, _≤_}
@@ -8,51 +8,13 @@ use lib.ListN.{length}
 use Rattle.words.specs.Written.{Wrote}
 use Rattle.words.proofs.Laws.{Going, begin, go, done}
 use Rattle.meaning.specs.Listing.{word}
-use Rattle.pipeline.specs.Stores.{delayStores}
 use Rattle.pair.specs.Pairs.{delay-texts}
 
 -- What d registers take: two words each.
-pub length-delays : (n m d : ℕ) → length (delayStores [] n d (word 2 m ∷ [])) ≡ 2 * d
-unfolding delayStores
-length-delays n m zero = refl
-length-delays n m (suc d) = omega (arith, length-delays (suc n) n d)
-
 pub length-ored : (n d : ℕ) → length (delay-texts n d) ≡ 2 * d
 unfolding delay-texts
 length-ored n zero = refl
 length-ored n (suc d) = omega (arith, length-ored (suc n) d)
-
--- The assignments of the delays behind register n.
-pub record Delaying (n d : ℕ) (o : List ℕ) (at : ℕ) (o′ : List ℕ) (p k : ℕ) : Type 0 where
-  pub turn : k ≤ d
-  pub place : p ≡ at + 2 * k
-  pub long : length o′ ≡ length o
-  pub going : Going o at (delayStores [] (n + 1) d (word 2 n ∷ [])) o′ p (delayStores [] (n + k + 1) (d - k) (word 2 (n + k) ∷ []))
-
-pub delaying-begins : (n d : ℕ) (o : List ℕ) (at : ℕ) → Delaying n d o at o at 0
-delaying-begins n d o at = record { turn = omega arith; place = omega arith; long = refl; going = rw (add-zero n, sub-zero d) (begin o at _) }
-
-pub delaying-on : {n d : ℕ} {o : List ℕ} {at : ℕ} {o′ o₁ : List ℕ} {p p₁ k : ℕ} → Delaying n d o at o′ p k → k < d
-    → Wrote o′ o₁ p p₁ (word 2 (n + k) ∷ word 9 (n + k + 1) ∷ []) → Delaying n d o at o₁ p₁ (k + 1)
-unfolding delayStores
-delaying-on {n} {d} {o} {at} {o′} {o₁} {p} {p₁} {k} g h w =
-    record { turn = omega arith; place = omega (arith, g .place, w .ends); long = next .long; going = next }
-  where
-    one-more : delayStores [] (n + k + 1) (d - k) (word 2 (n + k) ∷ [])
-        ≡ word 2 (n + k) ∷ word 9 (n + k + 1) ∷ delayStores [] (n + (k + 1) + 1) (d - (k + 1)) (word 2 (n + (k + 1)) ∷ [])
-    one-more =
-        let e : d - k ≡ suc (d - (k + 1)) = omega arith in
-        let f : suc (n + k + 1) ≡ n + (k + 1) + 1 = omega arith in
-        let i : n + k + 1 ≡ n + (k + 1) = omega arith in
-        rw (e, f, i) refl
-
-    next : Going o at (delayStores [] (n + 1) d (word 2 n ∷ [])) o₁ p₁ (delayStores [] (n + (k + 1) + 1) (d - (k + 1)) (word 2 (n + (k + 1)) ∷ []))
-    next = go (word 2 (n + k) ∷ word 9 (n + k + 1) ∷ []) _ (rw one-more at (g .going)) w
-
-pub delaying-ends : {n d : ℕ} {o : List ℕ} {at : ℕ} {o′ : List ℕ} {p k : ℕ} → Delaying n d o at o′ p k → d ≤ k
-    → Wrote o o′ at p (delayStores [] (n + 1) d (word 2 n ∷ []))
-unfolding delayStores
-delaying-ends {d = d} {k = k} g h = let e : d - k ≡ 0 = omega arith in done (rw e at (g .going))
 
 -- The registers from n on, ORed.
 pub record Oring (n d : ℕ) (o : List ℕ) (at : ℕ) (o′ : List ℕ) (p k : ℕ) : Type 0 where

@@ -3,8 +3,7 @@
 use mathlib.Core.Path.{_≡_, refl, sym, ap, _∙_}
 use mathlib.Core.Bool.{Bool, true, false}
 use mathlib.Core.List.{List, [], _∷_, _++_, append-assoc}
-use Prim.Native.Nat.{ℕ, suc, _+_, _*_, _-_, _<_, _≤_}
-use native.Mathlib.Numerals.{add-one}
+use Prim.Native.Nat.{ℕ, _+_, _*_, _-_, _<_, _≤_}
 use native.Mathlib.Omega.{arith}
 use mir.Val.{Fits}
 use mir.Syntax.{w32, w64}
@@ -13,52 +12,15 @@ use lib.Seq.{length-take-le}
 use borrow.Author.Tests.{le-leb, lt-leb, eq-eqb, ne-eqb}
 use Rattle.words.specs.Choice.{pick, pick-true, pick-false}
 use Rattle.words.specs.Written.{Wrote}
-use Rattle.words.proofs.Laws.{begin, go, last, done, same-words, length-written}
+use Rattle.words.proofs.Laws.{still-long, begin, go, nothing-written, last, same-words}
 use Rattle.meaning.specs.Listing.{word}
 use Rattle.meaning.specs.Root.{window-len}
 use Rattle.meaning.specs.declared.SeqStep.{SeqStep}
 use Rattle.pair.specs.declared.Fit.{Fit}
 use Rattle.pair.specs.declared.Fit.the-variants.{Delays, Above}
-use Rattle.pipeline.specs.Stores.{delayStores}
+use Rattle.pipeline.specs.Stores.{delay-store-words}
 use Rattle.pair.specs.Pairs.{registers-in, stores-in, text-in, fits-in, further, fit-of, delay-texts, pair-registers, pair-stores, pair-text, joining, taken-registers, taken-stores, taken-text}
-use Rattle.pair.proofs.Delays.{length-delays, length-ored}
-
--- What was written into a slice has not changed its length.
-pub still-long : {o o′ : List ℕ} {at r : ℕ} {ws : List ℕ} → Wrote o o′ at r ws → length o′ ≡ length o
-still-long {o} {at = at} {ws = ws} w = ap length (w .holds) ∙ length-written o at ws
-
-pub nothing : (o : List ℕ) (at : ℕ) → Wrote o o at at []
-nothing o at = done (begin o at [])
-
--- The assignments of d delays of a text, from register r on.
-pub no-delays : (r : ℕ) {d : ℕ} (text o : List ℕ) (at : ℕ) → d ≡ 0 → Wrote o o at at (delayStores [] r d text)
-unfolding delayStores
-no-delays r text o at e = rw e (nothing o at)
-
-module _ (r d : ℕ) (text : List ℕ) (some : d ≡ 0 → ⊥) where
-  first-delay : delayStores [] r d text ≡ text ++ (word 9 r ∷ delayStores [] (r + 1) (d - 1) (word 2 r ∷ []))
-  unfolding delayStores
-  first-delay = let e : d ≡ suc (d - 1) = omega arith in rw (add-one r) (ap (λ (k : ℕ). delayStores [] r k text) e)
-
-  pub delays-long : length (delayStores [] r d text) ≡ length text + (1 + 2 * (d - 1))
-  delays-long =
-      ap length first-delay
-      ∙ omega (arith, length-append text (word 9 r ∷ delayStores [] (r + 1) (d - 1) (word 2 r ∷ [])), length-delays (r + 1) r (d - 1))
-
-  module _ (at : ℕ) (o : List ℕ) (room : at + length (delayStores [] r d text) ≤ length o) where
-    pub delayed-room : at + length text ≤ length o
-    delayed-room = omega (arith, delays-long)
-
-    module _ {a : ℕ} {o₁ : List ℕ} (w : Wrote o o₁ at a text) where
-      pub delay-store-room : a < length o₁
-      delay-store-room = omega (arith, delays-long, w .ends, still-long w)
-
-      pub later-delays-room : {b v : ℕ} {o₂ : List ℕ} → Wrote o₁ o₂ a b (v ∷ []) → b + 2 * (d - 1) ≤ length o₂
-      later-delays-room x = omega (arith, delays-long, w .ends, still-long w, x .ends, still-long x)
-
-  pub delays-done : {at a b p : ℕ} {o o₁ o₂ o₃ : List ℕ} → Wrote o o₁ at a text → Wrote o₁ o₂ a b (word 9 r ∷ [])
-      → Wrote o₂ o₃ b p (delayStores [] (r + 1) (d - 1) (word 2 r ∷ [])) → Wrote o o₃ at p (delayStores [] r d text)
-  delays-done w x y = same-words (sym first-delay) (last (go (word 9 r ∷ []) _ (go text _ (begin _ _ _) w) x) y)
+use Rattle.pair.proofs.Delays.{length-ored}
 
 -- "window k1 not above l", and how many further delays.
 module _ (l : ℕ) (ss : List SeqStep) {k : ℕ} (e : k ≡ window-len ss) where
@@ -92,11 +54,11 @@ module _ (l : ℕ) (ss : List SeqStep) {f : Fit} (e : f ≡ fit-of l ss) (above 
 
   pub skipped-stores : (n : ℕ) (o : List ℕ) (at : ℕ) → Wrote o o at at (taken-stores l ss n)
   unfolding taken-stores
-  skipped-stores n o at = same-words (sym (pick-false _ _ not-in)) (nothing o at)
+  skipped-stores n o at = same-words (sym (pick-false _ _ not-in)) (nothing-written o at)
 
   pub skipped-text : (before : ℕ) (match-2 : List ℕ) (n : ℕ) (o : List ℕ) (at : ℕ) → Wrote o o at at (taken-text before l match-2 ss n)
   unfolding taken-text
-  skipped-text before match-2 n o at = same-words (sym (pick-false _ _ not-in)) (nothing o at)
+  skipped-text before match-2 n o at = same-words (sym (pick-false _ _ not-in)) (nothing-written o at)
 
 -- One that fits takes its own registers and l - k further ones.
 module _ (l : ℕ) (ss : List SeqStep) {f : Fit} {d : ℕ} (e : f ≡ fit-of l ss) (delays : f ≡ Delays d) where
@@ -112,7 +74,7 @@ module _ (l : ℕ) (ss : List SeqStep) {f : Fit} {d : ℕ} (e : f ≡ fit-of l s
   unfolding taken-registers pair-registers
   registers-are = pick-true _ _ is-in ∙ rw (← further-is) refl
 
-  stores-are : (n : ℕ) → taken-stores l ss n ≡ stores-in ss n ++ delayStores [] (n + registers-in ss) d (text-in ss n)
+  stores-are : (n : ℕ) → taken-stores l ss n ≡ stores-in ss n ++ delay-store-words [] (n + registers-in ss) d (text-in ss n)
   unfolding taken-stores pair-stores
   stores-are n = pick-true _ _ is-in ∙ rw (← further-is) refl
 
@@ -157,10 +119,10 @@ module _ (l : ℕ) (ss : List SeqStep) {f : Fit} {d : ℕ} (e : f ≡ fit-of l s
     taken-registers-are = omega (arith, registers-are)
 
     module _ (n : ℕ) where
-      stores-with : taken-stores l ss n ≡ stores-in ss n ++ delayStores [] (n + own) d (text-in ss n)
+      stores-with : taken-stores l ss n ≡ stores-in ss n ++ delay-store-words [] (n + own) d (text-in ss n)
       stores-with = stores-are n ∙ rw q refl
 
-      stores-long : length (taken-stores l ss n) ≡ length (stores-in ss n) + length (delayStores [] (n + own) d (text-in ss n))
+      stores-long : length (taken-stores l ss n) ≡ length (stores-in ss n) + length (delay-store-words [] (n + own) d (text-in ss n))
       stores-long = ap length stores-with ∙ length-append (stores-in ss n) _
 
       module _ (at : ℕ) (o : List ℕ) (room : at + length (taken-stores l ss n) ≤ length o) where
@@ -168,11 +130,11 @@ module _ (l : ℕ) (ss : List SeqStep) {f : Fit} {d : ℕ} (e : f ≡ fit-of l s
         own-stores-room = omega (arith, stores-long)
 
         pub slide-stores-room : {a : ℕ} {o₁ : List ℕ} → Wrote o o₁ at a (stores-in ss n)
-            → a + length (delayStores [] (n + own) d (text-in ss n)) ≤ length o₁
+            → a + length (delay-store-words [] (n + own) d (text-in ss n)) ≤ length o₁
         slide-stores-room w = omega (arith, stores-long, w .ends, still-long w)
 
       pub pair-stores-done : {at a p : ℕ} {o o₁ o₂ : List ℕ} → Wrote o o₁ at a (stores-in ss n)
-          → Wrote o₁ o₂ a p (delayStores [] (n + own) d (text-in ss n)) → Wrote o o₂ at p (taken-stores l ss n)
+          → Wrote o₁ o₂ a p (delay-store-words [] (n + own) d (text-in ss n)) → Wrote o o₂ at p (taken-stores l ss n)
       pair-stores-done w x = same-words (sym stores-with) (last (go (stores-in ss n) _ (begin _ _ _) w) x)
 
   module _ (before : ℕ) (match-2 : List ℕ) (n : ℕ) where

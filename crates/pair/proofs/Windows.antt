@@ -6,8 +6,8 @@ use native.Mathlib.Numerals.{add-one}
 use native.Mathlib.Omega.{arith}
 use Rattle.meaning.specs.Root.{hop-length, hop-sum, window-len}
 use Rattle.meaning.specs.declared.SeqStep.{SeqStep}
-use Rattle.current.specs.Text.{nthStep}
-use Rattle.pair.specs.Stored.{steps-from, count-in, steps-in, Kept}
+use Rattle.term.specs.Steps.{nth-step, steps-from}
+use Rattle.pair.specs.Stored.{count-in, steps-in, Kept}
 
 -- The hops before the k-th step are summed, and those from it on are left.
 pub record Windowing (words : List ℕ) (total k : ℕ) : Type 0 where
@@ -27,7 +27,7 @@ windowing-begins {words} K =
       rest = ap (λ (c : ℕ). window-len (steps-from words 0 c)) e ∙ omega arith;
     }
 
-pub windowing-on : {words : List ℕ} {total k d : ℕ} {s : SeqStep} → Windowing words total k → k < count-in words → s ≡ nthStep words k → d ≡ hop-length (s .hop)
+pub windowing-on : {words : List ℕ} {total k d : ℕ} {s : SeqStep} → Windowing words total k → k < count-in words → s ≡ nth-step words k → d ≡ hop-length (s .hop)
     → d ≤ 4294967295 → Windowing words (total + d) (k + 1)
 unfolding steps-from
 windowing-on {words} {total} {k} {d} {s} w h e q small = record {
@@ -36,7 +36,7 @@ windowing-on {words} {total} {k} {d} {s} w h e q small = record {
   low = omega (arith, w .low);
   rest =
       let f : count-in words - k ≡ suc (count-in words - (k + 1)) = omega arith in
-      let g : d ≡ hop-length (nthStep words k .hop) = q ∙ ap (λ (x : SeqStep). hop-length (x .hop)) e in
+      let g : d ≡ hop-length (nth-step words k .hop) = q ∙ ap (λ (x : SeqStep). hop-length (x .hop)) e in
       w .rest ∙ rw (f, add-one k) (omega (arith, g));
 }
 

@@ -15,7 +15,7 @@ use Rattle.meaning.specs.Listing.{word, expression-words, store-words}
 use Rattle.meaning.specs.declared.SeqStep.{SeqStep}
 use Rattle.pair.specs.declared.Fit.{Fit}
 use Rattle.pair.specs.declared.Fit.the-variants.{Delays, Above}
-use Rattle.pipeline.specs.Stores.{delayStores}
+use Rattle.pipeline.specs.Stores.{delay-store-words}
 
 -- One alternative of an operand: within takes none with a guard.
 abbrev pub alternative-synth : List SeqStep → ℕ → Synth
@@ -54,7 +54,7 @@ unfoldable pub pair-registers : ℕ → List SeqStep → ℕ
 pair-registers l s₁ = registers-in s₁ + further l s₁
 
 unfoldable pub pair-stores : ℕ → List SeqStep → ℕ → List ℕ
-pair-stores l s₁ n = stores-in s₁ n ++ delayStores [] (n + registers-in s₁) (further l s₁) (text-in s₁ n)
+pair-stores l s₁ n = stores-in s₁ n ++ delay-store-words [] (n + registers-in s₁) (further l s₁) (text-in s₁ n)
 
 unfoldable pub pair-text : ℕ → List ℕ → List SeqStep → ℕ → List ℕ
 pair-text l match-2 s₁ n =

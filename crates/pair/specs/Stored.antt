@@ -1,18 +1,13 @@
 -- Steps read back from a slice that holds one alternative's steps and nothing else, five words each.
 -- Example: of the words of Bool 0 reached by Fixed 0 and Bool 1 reached by Fixed 2, `steps-in` makes these two steps again.
 use mathlib.Core.List.{List, [], _∷_}
-use Prim.Native.Nat.{ℕ, zero, suc, _*_, _/_, _≤_, _<_}
+use Prim.Native.Nat.{ℕ, _*_, _/_, _≤_, _<_}
 use mathlib.Core.Path.{_≡_}
 use lib.ListN.{length}
-use Rattle.term.specs.Steps.{termAtom}
+use Rattle.term.specs.Steps.{term-atom, nth-step, steps-from}
 use Rattle.meaning.specs.declared.SeqStep.{SeqStep}
-use Rattle.current.specs.Text.{nthStep}
 
--- So many steps from the k-th on.
-unfoldable pub steps-from : List ℕ → ℕ → ℕ → List SeqStep
-steps-from words k zero = []
-steps-from words k (suc count) = nthStep words k ∷ steps-from words (suc k) count
-
+-- How many there are, and which.
 abbrev pub count-in : List ℕ → ℕ
 count-in words = length words / 5
 
@@ -22,11 +17,11 @@ steps-in words = steps-from words 0 (count-in words)
 -- 1: "atom too large" came first, so that each atom fits into a listing's word.
 abbrev pub SmallAtoms : List SeqStep → Type 0
 SmallAtoms [] = Unit {0}
-SmallAtoms (s ∷ ss) = (termAtom (s .term) < 65536) × SmallAtoms ss
+SmallAtoms (s ∷ ss) = (term-atom (s .term) < 65536) × SmallAtoms ss
 
 -- The words are those of some steps, not more than the room has entries, with small atoms.
 pub record Kept (words : List ℕ) : Type 0 where
   pub whole : length words ≡ count-in words * 5
   pub some : 1 ≤ count-in words
   pub many : count-in words ≤ 65536
-  pub atoms : (k : ℕ) → k < count-in words → termAtom (nthStep words k .term) < 65536
+  pub atoms : (k : ℕ) → k < count-in words → term-atom (nth-step words k .term) < 65536

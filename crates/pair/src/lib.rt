@@ -5,24 +5,22 @@
 // stores `a0 any seq1`, and its text is `r0 a2 any and a0 any r1 or and`.
 ghost use mathlib.Core.Path.{_≡_};
 ghost use mathlib.Core.List.{[], _∷_, _++_};
-ghost use Prim.Native.Nat.{_+_, _-_, _*_, _≤_, _<_};
+ghost use Prim.Native.Nat.{_+_, _-_, _*_, _≤_};
 ghost use lib.ListN.{length, «take», «drop»};
 ghost use Rattle.words.specs.Written.{Wrote};
 ghost use Rattle.meaning.specs.Listing.{word};
 ghost use Rattle.meaning.specs.Root.{window-len, hop-length};
-ghost use Rattle.pipeline.specs.Stores.{delayStores};
+ghost use Rattle.pipeline.specs.Stores.{delay-store-words};
 ghost use Rattle.pair.specs.Stored.{steps-in, Kept};
 ghost use Rattle.pair.specs.Pairs.{registers-in, stores-in, text-in, fit-of, delay-texts, joining, taken-registers, taken-stores, taken-text};
-ghost use Rattle.pair.specs.Sizes.{size, size-in, delays-size, taken-size};
+ghost use Rattle.sizes.specs.Sizes.{delays-size};
+ghost use Rattle.pair.specs.Sizes.{size, size-in, taken-size};
 
 // How an alternative of seq1 goes beside one of seq2: with so many further delays, or not at all.
 pub enum Fit {
     Delays(u64),
     Above,
 }
-
-// 01's store `seq`, with argument 0.
-const SEQ: u32 = 9 * current::ATOM;
 
 // The ticks of a hop.
 fn hop_length(h: meaning::SeqHop) -> u64
@@ -92,31 +90,17 @@ fn text_of(steps: &[u32], n: u32, out: &mut [u32], at: usize) -> usize
     current::current(steps, &steps[..0], j, r, out, at)
 }
 
-// The assignments of d delays behind register n: each takes the register before it.
-fn later_delays(n: u32, d: u32, out: &mut [u32], at: usize) -> usize
-    requires { ⌜ (n + d < 65536) × (at + 2 * d ≤ length (now out)) ⌝ }
-    ensures { λ p. ⌜ Wrote (now (out .entry)) (now (out .exit)) at p (delayStores [] (n + 1) d (word 2 n ∷ [])) ⌝ }
-{
-    let mut p = at;
-    let mut k = 0;
-    while k < d {
-        p = current::copied(&[current::REGISTER + (n + k), SEQ + (n + k + 1)], out, p);
-        k += 1;
-    }
-    p
-}
-
 // The assignments of d delays of an alternative's text, from register r on; the alternative's own begin with n.
 fn slide_stores(steps: &[u32], n: u32, r: u32, d: u32, out: &mut [u32], at: usize) -> usize
-    requires { ⌜ Kept (now steps) × (n + registers-in (steps-in (now steps)) ≤ 65536) × (r + d ≤ 65536) × (at + length (delayStores [] r d (text-in (steps-in (now steps)) n)) ≤ length (now out)) ⌝ }
-    ensures { λ p. ⌜ Wrote (now (out .entry)) (now (out .exit)) at p (delayStores [] r d (text-in (steps-in (now (steps .entry))) n)) ⌝ }
+    requires { ⌜ Kept (now steps) × (n + registers-in (steps-in (now steps)) ≤ 65536) × (r + d ≤ 65536) × (at + length (delay-store-words [] r d (text-in (steps-in (now steps)) n)) ≤ length (now out)) ⌝ }
+    ensures { λ p. ⌜ Wrote (now (out .entry)) (now (out .exit)) at p (delay-store-words [] r d (text-in (steps-in (now (steps .entry))) n)) ⌝ }
 {
     if d == 0 {
         return at;
     }
     let a = text_of(steps, n, out, at);
-    let b = words::put(out, a, SEQ + r);
-    later_delays(r, d - 1, out, b)
+    let b = words::put(out, a, pipeline::SEQ + r);
+    pipeline::delays(&steps[..0], r + 1, d - 1, out, b)
 }
 
 // d registers from n on, each ORed to what stands before it.
@@ -233,25 +217,13 @@ pub fn size_of(steps: &[u32]) -> sizes::Size
     sizes::sizes(steps, &steps[..0], steps.len() / 5)
 }
 
-// The words that d delays of a text store.
-fn delays_size(d: u64, text: u64) -> u64
-    requires { ⌜ (d ≤ 65536) × (text ≤ 1048576) ⌝ }
-    ensures { λ r. ⌜ r ≡ delays-size d text ⌝ }
-    ensures small { λ r. ⌜ r ≤ 1179648 ⌝ }
-{
-    if d == 0 {
-        return 0;
-    }
-    text + (1 + 2 * (d - 1))
-}
-
 // The words of a pair that fits, with d further delays, beside a text of seq2 of so many words.
 fn fitting_size(own: sizes::Size, two: u64, d: u64) -> sizes::Size
     requires { ⌜ (own .text ≤ 1048576) × (own .stores ≤ 9007199254740992) × (two ≤ 1048576) × (d ≤ 65536) ⌝ }
-    ensures { λ r. ⌜ r ≡ size (two + (own .text + (2 * d + 2))) (own .stores + delays-size d (own .text)) ⌝ }
+    ensures { λ r. ⌜ r ≡ size (two + (own .text + (2 * d + 2))) (own .stores + delays-size 0 d (own .text)) ⌝ }
     ensures small { λ r. ⌜ (r .text ≤ 4194304) × (r .stores ≤ 18014398509481984) ⌝ }
 {
-    let delays = delays_size(d, own.text);
+    let delays = sizes::delays(0, d, own.text);
     sizes::Size {
         text: two + (own.text + (2 * d + 2)),
         stores: own.stores + delays,

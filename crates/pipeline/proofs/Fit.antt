@@ -1,27 +1,21 @@
 -- Refusal 12's test and the sum of registers, as the code meets them; and the stored steps as a list. They assume nothing.
-use mathlib.Core.Path.{_≡_, refl, sym, ap, ap₂, _∙_}
+use mathlib.Core.Path.{_≡_, refl, sym, ap, _∙_}
 use mathlib.Core.Bool.{Bool, true, false, not}
-use mathlib.Core.List.{List, [], _∷_}
+use mathlib.Core.List.{List, _∷_}
 use Prim.Native.Nat.{ℕ, zero, suc, _+_, _*_, _-_, _<_, _≤_}
 use native.Mathlib.Omega.{arith}
 use native.Mathlib.Numerals.{add-one}
 use lib.Dec.{ltb}
-use lib.ListN.{length}
 use borrow.Author.Tests.{lt-ltb, not-true, not-false}
 use Rattle.words.specs.Choice.{pick, pick-true, pick-false}
 use Rattle.meaning.specs.Refusals.{is-empty, fixed-from-1, empties-fit, steps-fit}
 use Rattle.meaning.specs.declared.SeqHop.{SeqHop}
 use Rattle.meaning.specs.declared.SeqHop.the-variants.{Fixed}
 use Rattle.meaning.specs.declared.SeqStep.{SeqStep}
-use Rattle.current.specs.Text.{nthStep, Stored, registersAt, registersBefore}
+use Rattle.term.specs.Steps.{nth-step, steps-from}
+use Rattle.current.specs.Text.{registers-at, registers-before}
 use Rattle.current.proofs.Walk.{registers-more}
-use Rattle.pipeline.specs.Fit.{stepsFrom, hopFits}
-
--- The steps read are the steps stored.
-pub steps-are : (ts : List ℕ) (ss : List SeqStep) (k : ℕ) → Stored ts k ss → stepsFrom ts k (length ss) ≡ ss
-unfolding stepsFrom
-steps-are ts [] k S = refl
-steps-are ts (s ∷ ss) k S = ap₂ (λ (x : SeqStep) (xs : List SeqStep). x ∷ xs) (S .0) (steps-are ts ss (suc k) (S .1))
+use Rattle.pipeline.specs.Fit.{hop-fits}
 
 positive : (d : ℕ) → ltb 0 d ≡ fixed-from-1 (Fixed d)
 positive zero = refl
@@ -39,65 +33,65 @@ choose false true fixed rest others e = refl
 choose false false fixed rest others e = e refl
 
 fit-step : (before : Bool) (s : SeqStep) (ss : List SeqStep)
-    → empties-fit before (s ∷ ss) ≡ pick (hopFits before (is-empty (s .term)) (s .hop)) (empties-fit (is-empty (s .term)) ss) false
-unfolding hopFits
+    → empties-fit before (s ∷ ss) ≡ pick (hop-fits before (is-empty (s .term)) (s .hop)) (empties-fit (is-empty (s .term)) ss) false
+unfolding hop-fits
 fit-step before s ss =
     choose before (is-empty (s .term)) (fixed-from-1 (s .hop)) (empties-fit (is-empty (s .term)) ss) (empties-fit false ss) (λ e. ap (λ (b : Bool). empties-fit b ss) (sym e))
 
 -- The loop of `empties_fit`: the hops before the k-th fit, so the answer is that of the others.
 pub record Fitting (ts : List ℕ) (count : ℕ) (before : Bool) (k : ℕ) : Type 0 where
   pub turn : k ≤ count
-  pub rest : empties-fit false (stepsFrom ts 1 (count - 1)) ≡ empties-fit before (stepsFrom ts k (count - k))
+  pub rest : empties-fit false (steps-from ts 1 (count - 1)) ≡ empties-fit before (steps-from ts k (count - k))
 
 pub fitting-begins : (ts : List ℕ) (count : ℕ) → 1 ≤ count → Fitting ts count false 1
 fitting-begins ts count h = record { turn = h; rest = refl }
 
 module _ {ts : List ℕ} {count : ℕ} {before : Bool} {k : ℕ} (F : Fitting ts count before k) where
-  module _ (h : k < count) {s : SeqStep} {after b : Bool} (w : s ≡ nthStep ts k) (e : after ≡ is-empty (s .term)) (f : b ≡ hopFits before after (s .hop)) where
-    fit-here : empties-fit before (stepsFrom ts k (count - k)) ≡ pick b (empties-fit after (stepsFrom ts (k + 1) (count - (k + 1)))) false
-    unfolding stepsFrom
+  module _ (h : k < count) {s : SeqStep} {after b : Bool} (w : s ≡ nth-step ts k) (e : after ≡ is-empty (s .term)) (f : b ≡ hop-fits before after (s .hop)) where
+    fit-here : empties-fit before (steps-from ts k (count - k)) ≡ pick b (empties-fit after (steps-from ts (k + 1) (count - (k + 1)))) false
+    unfolding steps-from
     fit-here =
         let a : count - k ≡ suc (count - (k + 1)) = omega (arith, h) in
-        rw (a, add-one k, ← w) (fit-step before s (stepsFrom ts (suc k) (count - (suc k))) ∙ rw (← e, ← f) refl)
+        rw (a, add-one k, ← w) (fit-step before s (steps-from ts (suc k) (count - (suc k))) ∙ rw (← e, ← f) refl)
 
     pub fitting-on : not b ≡ false → Fitting ts count after (k + 1)
     fitting-on q = record { turn = omega (arith, h); rest = F .rest ∙ fit-here ∙ pick-true _ _ (not-false b q) }
 
-    pub fitting-fails : not b ≡ true → false ≡ empties-fit false (stepsFrom ts 1 (count - 1))
+    pub fitting-fails : not b ≡ true → false ≡ empties-fit false (steps-from ts 1 (count - 1))
     fitting-fails q = sym (F .rest ∙ fit-here ∙ pick-false _ _ (not-true b q))
 
-  pub fitting-ends : count ≤ k → true ≡ empties-fit false (stepsFrom ts 1 (count - 1))
-  unfolding stepsFrom
+  pub fitting-ends : count ≤ k → true ≡ empties-fit false (steps-from ts 1 (count - 1))
+  unfolding steps-from
   fitting-ends h = let e : count - k ≡ 0 = omega (arith, h) in sym (F .rest ∙ rw e refl)
 
 -- `steps_fit`: the first term, then the others.
-module _ (ts : List ℕ) (count : ℕ) {s : SeqStep} {b : Bool} (h : 1 ≤ count) (w : s ≡ nthStep ts 0) (e : b ≡ is-empty (s .term)) where
-  fit-first : steps-fit (stepsFrom ts 0 count) ≡ pick b false (empties-fit false (stepsFrom ts 1 (count - 1)))
-  unfolding stepsFrom
-  fit-first = let a : count ≡ suc (count - 1) = omega (arith, h) in ap (λ (m : ℕ). steps-fit (stepsFrom ts 0 m)) a ∙ rw (e, w) refl
+module _ (ts : List ℕ) (count : ℕ) {s : SeqStep} {b : Bool} (h : 1 ≤ count) (w : s ≡ nth-step ts 0) (e : b ≡ is-empty (s .term)) where
+  fit-first : steps-fit (steps-from ts 0 count) ≡ pick b false (empties-fit false (steps-from ts 1 (count - 1)))
+  unfolding steps-from
+  fit-first = let a : count ≡ suc (count - 1) = omega (arith, h) in ap (λ (m : ℕ). steps-fit (steps-from ts 0 m)) a ∙ rw (e, w) refl
 
-  pub lead-misplaced : b ≡ true → false ≡ steps-fit (stepsFrom ts 0 count)
+  pub lead-misplaced : b ≡ true → false ≡ steps-fit (steps-from ts 0 count)
   lead-misplaced q = sym (fit-first ∙ pick-true _ _ q)
 
-  pub lead-fits : {r : Bool} → b ≡ false → r ≡ empties-fit false (stepsFrom ts 1 (count - 1)) → r ≡ steps-fit (stepsFrom ts 0 count)
+  pub lead-fits : {r : Bool} → b ≡ false → r ≡ empties-fit false (steps-from ts 1 (count - 1)) → r ≡ steps-fit (steps-from ts 0 count)
   lead-fits q f = f ∙ sym (fit-first ∙ pick-false _ _ q)
 
 -- The loop of `registers`: those of k steps are added.
 pub record Summing (ts : List ℕ) (count sum k : ℕ) : Type 0 where
   pub turn : k ≤ count
-  pub holds : sum ≡ registersBefore ts k
+  pub holds : sum ≡ registers-before ts k
   pub small : sum ≤ k * 8589934591
 
 pub summing-begins : (ts : List ℕ) (count : ℕ) → Summing ts count 0 0
-unfolding registersBefore
+unfolding registers-before
 summing-begins ts count = record { turn = omega arith; holds = refl; small = omega arith }
 
 module _ {ts : List ℕ} {count sum k : ℕ} (S : Summing ts count sum k) where
-  pub summing-on : {q : ℕ} → k < count → q ≡ registersAt ts k → q ≤ 8589934591 → Summing ts count (sum + q) (k + 1)
+  pub summing-on : {q : ℕ} → k < count → q ≡ registers-at ts k → q ≤ 8589934591 → Summing ts count (sum + q) (k + 1)
   summing-on h e l = record { turn = omega (arith, h); holds = omega (arith, S .holds, registers-more ts k, e); small = omega (arith, S .small, l) }
 
-  pub summing-ends : count ≤ k → sum ≡ registersBefore ts count
-  summing-ends h = let e : k ≡ count = omega (arith, h, S .turn) in S .holds ∙ ap (registersBefore ts) e
+  pub summing-ends : count ≤ k → sum ≡ registers-before ts count
+  summing-ends h = let e : k ≡ count = omega (arith, h, S .turn) in S .holds ∙ ap (registers-before ts) e
 
   pub summing-small : count ≤ 65536 → sum ≤ 562949953355776
   summing-small h = omega (arith, S .small, S .turn, h)

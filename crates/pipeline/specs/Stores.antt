@@ -5,46 +5,46 @@ use Prim.Native.Nat.{ℕ, zero, suc, _+_, _*_, _-_, _<_, _≤_}
 use lib.Dec.{ltb}
 use lib.ListN.{length}
 use Rattle.words.specs.Choice.{pick}
-use Rattle.term.specs.Steps.{termAtom}
+use Rattle.term.specs.Steps.{term-atom, nth-step}
 use Rattle.meaning.specs.Expression.{seq, arm}
 use Rattle.meaning.specs.declared.SeqHop.{SeqHop}
 use Rattle.meaning.specs.declared.SeqHop.the-variants.{Fixed, AtLeast}
-use Rattle.current.specs.Text.{registerWord, orWord, oneWord, storeWord, nthStep, reach, hopRegisters, registersAt, registersBefore, activationAt}
-use Rattle.current.specs.Walk.{textBefore}
-use Rattle.fsm.specs.Stores.{termStores}
+use Rattle.current.specs.Text.{register-word, or-word, one-word, store-word, reach, hop-registers, registers-at, registers-before, activation-at}
+use Rattle.current.specs.Walk.{text-before}
+use Rattle.fsm.specs.Stores.{term-store-words}
 
 -- d times `seq_delay_reg` from register r on: the first takes the text before, each other the one before it with the guard.
-unfoldable pub delayStores : List ℕ → ℕ → ℕ → List ℕ → List ℕ
-delayStores G r zero before = []
-delayStores G r (suc d) before = before ++ (storeWord seq r ∷ delayStores G (suc r) d (registerWord r ∷ G))
+unfoldable pub delay-store-words : List ℕ → ℕ → ℕ → List ℕ → List ℕ
+delay-store-words G r zero before = []
+delay-store-words G r (suc d) before = before ++ (store-word seq r ∷ delay-store-words G (suc r) d (register-word r ∷ G))
 
 -- "'At least m' takes m - 1 delays (none for m = 0) and a latch", which take no guard.
-unfoldable pub hopStores : List ℕ → ℕ → SeqHop → List ℕ → List ℕ
-hopStores G r (Fixed d) before = delayStores G r d before
-hopStores G r (AtLeast m) before =
+unfoldable pub hop-store-words : List ℕ → ℕ → SeqHop → List ℕ → List ℕ
+hop-store-words G r (Fixed d) before = delay-store-words G r d before
+hop-store-words G r (AtLeast m) before =
     pick (ltb m 2)
-    (registerWord r ∷ (before ++ (orWord ∷ storeWord arm r ∷ [])))
-    (delayStores [] r (m - 1) before ++ (registerWord (r + m - 1) ∷ registerWord (r + m - 2) ∷ orWord ∷ storeWord arm (r + m - 1) ∷ []))
+    (register-word r ∷ (before ++ (or-word ∷ store-word arm r ∷ [])))
+    (delay-store-words [] r (m - 1) before ++ (register-word (r + m - 1) ∷ register-word (r + m - 2) ∷ or-word ∷ store-word arm (r + m - 1) ∷ []))
 
 -- The k-th step, a later one, whose first register is r: its hop's, then its term's.
-unfoldable pub stepStores : List ℕ → List ℕ → ℕ → ℕ → List ℕ
-stepStores steps G k r =
-    let h = reach (nthStep steps k) in
-    hopStores G r h (textBefore steps G k r) ++ termStores (r + hopRegisters h) (nthStep steps k .term) (activationAt steps G k r)
+unfoldable pub step-store-words : List ℕ → List ℕ → ℕ → ℕ → List ℕ
+step-store-words steps G k r =
+    let h = reach (nth-step steps k) in
+    hop-store-words G r h (text-before steps G k r) ++ term-store-words (r + hop-registers h) (nth-step steps k .term) (activation-at steps G k r)
 
 -- The count steps after the k-th, whose first register is r.
-unfoldable pub storesAfter : List ℕ → List ℕ → ℕ → ℕ → ℕ → List ℕ
-storesAfter steps G k r zero = []
-storesAfter steps G k r (suc count) = stepStores steps G (suc k) (r + registersAt steps k) ++ storesAfter steps G (suc k) (r + registersAt steps k) count
+unfoldable pub store-words-after : List ℕ → List ℕ → ℕ → ℕ → ℕ → List ℕ
+store-words-after steps G k r zero = []
+store-words-after steps G k r (suc count) = step-store-words steps G (suc k) (r + registers-at steps k) ++ store-words-after steps G (suc k) (r + registers-at steps k) count
 
 -- An alternative of count steps whose first register is n: its first term's, activated by constant one, then the later steps'.
-unfoldable pub alternativeStores : List ℕ → List ℕ → ℕ → ℕ → List ℕ
-alternativeStores steps G count n = termStores n (nthStep steps 0 .term) (oneWord ∷ []) ++ storesAfter steps G 0 n (count - 1)
+unfoldable pub alternative-store-words : List ℕ → List ℕ → ℕ → ℕ → List ℕ
+alternative-store-words steps G count n = term-store-words n (nth-step steps 0 .term) (one-word ∷ []) ++ store-words-after steps G 0 n (count - 1)
 
 -- The steps are there, and their atoms and registers, from n on, are small enough for words.
 pub record ReadyAll (steps : List ℕ) (count n : ℕ) : Type 0 where
   pub some : 1 ≤ count
   pub inside : count * 5 ≤ length steps
   pub many : count ≤ 65536
-  pub atoms : (k : ℕ) → k < count → termAtom (nthStep steps k .term) < 65536
-  pub registers : n + registersBefore steps count ≤ 65536
+  pub atoms : (k : ℕ) → k < count → term-atom (nth-step steps k .term) < 65536
+  pub registers : n + registers-before steps count ≤ 65536

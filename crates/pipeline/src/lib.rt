@@ -9,21 +9,23 @@ ghost use lib.ListN.{length};
 ghost use Rattle.words.specs.Written.{Wrote};
 ghost use Rattle.meaning.specs.Expression.{seq, arm};
 ghost use Rattle.meaning.specs.declared.SeqHop.the-variants.{AtLeast};
-ghost use Rattle.current.specs.Text.{registerWord, orWord, storeWord, hopRegisters, registersBefore};
-ghost use Rattle.current.specs.Walk.{textBefore, Ready};
+ghost use Rattle.current.specs.Text.{register-word, or-word, store-word, hop-registers, registers-before};
+ghost use Rattle.current.specs.Walk.{text-before, Ready};
 ghost use mathlib.Core.Bool.{«false»};
 ghost use Rattle.meaning.specs.Refusals.{fixed-from-1, empties-fit, steps-fit};
-ghost use Rattle.pipeline.specs.Fit.{stepsFrom, hopFits};
-ghost use Rattle.pipeline.specs.Stores.{delayStores, hopStores, stepStores, storesAfter, alternativeStores, ReadyAll};
+ghost use Rattle.term.specs.Steps.{steps-from};
+ghost use Rattle.pipeline.specs.Fit.{hop-fits};
+ghost use Rattle.pipeline.specs.Stores.{delay-store-words, hop-store-words, step-store-words, store-words-after, alternative-store-words, ReadyAll};
 
-const SEQ: u32 = 9 * current::ATOM;
+// 01's stores `seq` and `arm`, with argument 0.
+pub const SEQ: u32 = 9 * current::ATOM;
 
 const ARM: u32 = 10 * current::ATOM;
 
 // `seq_delay_reg`: register r takes the one before, with the guard.
 fn delay(guard: &[u32], r: u32, out: &mut [u32], at: usize) -> usize
     requires { ⌜ (0 < r) × (r < 65536) × (at + (2 + length (now guard)) ≤ length (now out)) ⌝ }
-    ensures { λ p. ⌜ Wrote (now (out .entry)) (now (out .exit)) at p (registerWord (r - 1) ∷ (now (guard .entry) ++ (storeWord seq r ∷ []))) ⌝ }
+    ensures { λ p. ⌜ Wrote (now (out .entry)) (now (out .exit)) at p (register-word (r - 1) ∷ (now (guard .entry) ++ (store-word seq r ∷ []))) ⌝ }
 {
     let a = words::put(out, at, current::REGISTER + (r - 1));
     let b = current::copied(guard, out, a);
@@ -31,9 +33,9 @@ fn delay(guard: &[u32], r: u32, out: &mut [u32], at: usize) -> usize
 }
 
 // d of them, from r on.
-fn delays(guard: &[u32], r: u32, d: u32, out: &mut [u32], at: usize) -> usize
-    requires { ⌜ (0 < r) × (r + d ≤ 65536) × (at + length (delayStores (now guard) r d (registerWord (r - 1) ∷ now guard)) ≤ length (now out)) ⌝ }
-    ensures { λ p. ⌜ Wrote (now (out .entry)) (now (out .exit)) at p (delayStores (now (guard .entry)) r d (registerWord (r - 1) ∷ now (guard .entry))) ⌝ }
+pub fn delays(guard: &[u32], r: u32, d: u32, out: &mut [u32], at: usize) -> usize
+    requires { ⌜ (0 < r) × (r + d ≤ 65536) × (at + length (delay-store-words (now guard) r d (register-word (r - 1) ∷ now guard)) ≤ length (now out)) ⌝ }
+    ensures { λ p. ⌜ Wrote (now (out .entry)) (now (out .exit)) at p (delay-store-words (now (guard .entry)) r d (register-word (r - 1) ∷ now (guard .entry))) ⌝ }
 {
     let mut p = at;
     let mut i = 0;
@@ -55,8 +57,8 @@ fn fixed(
     out: &mut [u32],
     at: usize,
 ) -> usize
-    requires { ⌜ Ready (now steps) k r × (0 < k) × (r + d ≤ 65536) × (at + length (delayStores (now kept) r d (textBefore (now steps) (now guard) k r)) ≤ length (now out)) ⌝ }
-    ensures { λ p. ⌜ Wrote (now (out .entry)) (now (out .exit)) at p (delayStores (now (kept .entry)) r d (textBefore (now (steps .entry)) (now (guard .entry)) k r)) ⌝ }
+    requires { ⌜ Ready (now steps) k r × (0 < k) × (r + d ≤ 65536) × (at + length (delay-store-words (now kept) r d (text-before (now steps) (now guard) k r)) ≤ length (now out)) ⌝ }
+    ensures { λ p. ⌜ Wrote (now (out .entry)) (now (out .exit)) at p (delay-store-words (now (kept .entry)) r d (text-before (now (steps .entry)) (now (guard .entry)) k r)) ⌝ }
 {
     if d == 0 {
         return at;
@@ -68,8 +70,8 @@ fn fixed(
 
 // The latch of an "at least 0" or "at least 1".
 fn latch(steps: &[u32], guard: &[u32], k: usize, r: u32, out: &mut [u32], at: usize) -> usize
-    requires { ⌜ Ready (now steps) k r × (0 < k) × (r < 65536) × (at + (3 + length (textBefore (now steps) (now guard) k r)) ≤ length (now out)) ⌝ }
-    ensures { λ p. ⌜ Wrote (now (out .entry)) (now (out .exit)) at p (registerWord r ∷ (textBefore (now (steps .entry)) (now (guard .entry)) k r ++ (orWord ∷ storeWord arm r ∷ []))) ⌝ }
+    requires { ⌜ Ready (now steps) k r × (0 < k) × (r < 65536) × (at + (3 + length (text-before (now steps) (now guard) k r)) ≤ length (now out)) ⌝ }
+    ensures { λ p. ⌜ Wrote (now (out .entry)) (now (out .exit)) at p (register-word r ∷ (text-before (now (steps .entry)) (now (guard .entry)) k r ++ (or-word ∷ store-word arm r ∷ []))) ⌝ }
 {
     let a = words::put(out, at, current::REGISTER + r);
     let b = current::before(steps, guard, k, r, out, a);
@@ -86,8 +88,8 @@ fn late_latch(
     out: &mut [u32],
     at: usize,
 ) -> usize
-    requires { ⌜ Ready (now steps) k r × (0 < k) × (2 ≤ m) × (r + m ≤ 65536) × (at + (4 + length (delayStores [] r (m - 1) (textBefore (now steps) (now guard) k r))) ≤ length (now out)) ⌝ }
-    ensures { λ p. ⌜ Wrote (now (out .entry)) (now (out .exit)) at p (delayStores [] r (m - 1) (textBefore (now (steps .entry)) (now (guard .entry)) k r) ++ (registerWord (r + m - 1) ∷ registerWord (r + m - 2) ∷ orWord ∷ storeWord arm (r + m - 1) ∷ [])) ⌝ }
+    requires { ⌜ Ready (now steps) k r × (0 < k) × (2 ≤ m) × (r + m ≤ 65536) × (at + (4 + length (delay-store-words [] r (m - 1) (text-before (now steps) (now guard) k r))) ≤ length (now out)) ⌝ }
+    ensures { λ p. ⌜ Wrote (now (out .entry)) (now (out .exit)) at p (delay-store-words [] r (m - 1) (text-before (now (steps .entry)) (now (guard .entry)) k r) ++ (register-word (r + m - 1) ∷ register-word (r + m - 2) ∷ or-word ∷ store-word arm (r + m - 1) ∷ [])) ⌝ }
 {
     let a = fixed(steps, guard, &guard[..0], k, r, m - 1, out, at);
     current::copied(
@@ -112,8 +114,8 @@ fn at_least(
     out: &mut [u32],
     at: usize,
 ) -> usize
-    requires { ⌜ Ready (now steps) k r × (0 < k) × (r + hopRegisters (AtLeast m) ≤ 65536) × (at + length (hopStores (now guard) r (AtLeast m) (textBefore (now steps) (now guard) k r)) ≤ length (now out)) ⌝ }
-    ensures { λ p. ⌜ Wrote (now (out .entry)) (now (out .exit)) at p (hopStores (now (guard .entry)) r (AtLeast m) (textBefore (now (steps .entry)) (now (guard .entry)) k r)) ⌝ }
+    requires { ⌜ Ready (now steps) k r × (0 < k) × (r + hop-registers (AtLeast m) ≤ 65536) × (at + length (hop-store-words (now guard) r (AtLeast m) (text-before (now steps) (now guard) k r)) ≤ length (now out)) ⌝ }
+    ensures { λ p. ⌜ Wrote (now (out .entry)) (now (out .exit)) at p (hop-store-words (now (guard .entry)) r (AtLeast m) (text-before (now (steps .entry)) (now (guard .entry)) k r)) ⌝ }
 {
     if m < 2 {
         return latch(steps, guard, k, r, out, at);
@@ -131,8 +133,8 @@ fn hop_over(
     out: &mut [u32],
     at: usize,
 ) -> usize
-    requires { ⌜ Ready (now steps) k r × (0 < k) × (r + hopRegisters h ≤ 65536) × (at + length (hopStores (now guard) r h (textBefore (now steps) (now guard) k r)) ≤ length (now out)) ⌝ }
-    ensures { λ p. ⌜ Wrote (now (out .entry)) (now (out .exit)) at p (hopStores (now (guard .entry)) r h (textBefore (now (steps .entry)) (now (guard .entry)) k r)) ⌝ }
+    requires { ⌜ Ready (now steps) k r × (0 < k) × (r + hop-registers h ≤ 65536) × (at + length (hop-store-words (now guard) r h (text-before (now steps) (now guard) k r)) ≤ length (now out)) ⌝ }
+    ensures { λ p. ⌜ Wrote (now (out .entry)) (now (out .exit)) at p (hop-store-words (now (guard .entry)) r h (text-before (now (steps .entry)) (now (guard .entry)) k r)) ⌝ }
 {
     match h {
         meaning::SeqHop::Fixed(d) => fixed(steps, guard, guard, k, r, d, out, at),
@@ -142,8 +144,8 @@ fn hop_over(
 
 // The stores of the k-th step, a later one.
 fn later(steps: &[u32], guard: &[u32], k: usize, r: u32, out: &mut [u32], at: usize) -> usize
-    requires { ⌜ Ready (now steps) k r × (0 < k) × (at + length (stepStores (now steps) (now guard) k r) ≤ length (now out)) ⌝ }
-    ensures { λ p. ⌜ Wrote (now (out .entry)) (now (out .exit)) at p (stepStores (now (steps .entry)) (now (guard .entry)) k r) ⌝ }
+    requires { ⌜ Ready (now steps) k r × (0 < k) × (at + length (step-store-words (now steps) (now guard) k r) ≤ length (now out)) ⌝ }
+    ensures { λ p. ⌜ Wrote (now (out .entry)) (now (out .exit)) at p (step-store-words (now (steps .entry)) (now (guard .entry)) k r) ⌝ }
 {
     let s = current::step(steps, k);
     let x = s.term;
@@ -155,8 +157,8 @@ fn later(steps: &[u32], guard: &[u32], k: usize, r: u32, out: &mut [u32], at: us
 
 // The stores of the steps after the first.
 fn laters(steps: &[u32], guard: &[u32], count: usize, n: u32, out: &mut [u32], at: usize) -> usize
-    requires { ⌜ ReadyAll (now steps) count n × (at + length (storesAfter (now steps) (now guard) 0 n (count - 1)) ≤ length (now out)) ⌝ }
-    ensures { λ p. ⌜ Wrote (now (out .entry)) (now (out .exit)) at p (storesAfter (now (steps .entry)) (now (guard .entry)) 0 n (count - 1)) ⌝ }
+    requires { ⌜ ReadyAll (now steps) count n × (at + length (store-words-after (now steps) (now guard) 0 n (count - 1)) ≤ length (now out)) ⌝ }
+    ensures { λ p. ⌜ Wrote (now (out .entry)) (now (out .exit)) at p (store-words-after (now (steps .entry)) (now (guard .entry)) 0 n (count - 1)) ⌝ }
 {
     let mut p = at;
     let mut k = 1;
@@ -179,8 +181,8 @@ pub fn stores(
     out: &mut [u32],
     at: usize,
 ) -> usize
-    requires { ⌜ ReadyAll (now steps) count n × (at + length (alternativeStores (now steps) (now guard) count n) ≤ length (now out)) ⌝ }
-    ensures { λ p. ⌜ Wrote (now (out .entry)) (now (out .exit)) at p (alternativeStores (now (steps .entry)) (now (guard .entry)) count n) ⌝ }
+    requires { ⌜ ReadyAll (now steps) count n × (at + length (alternative-store-words (now steps) (now guard) count n) ≤ length (now out)) ⌝ }
+    ensures { λ p. ⌜ Wrote (now (out .entry)) (now (out .exit)) at p (alternative-store-words (now (steps .entry)) (now (guard .entry)) count n) ⌝ }
 {
     let s = current::step(steps, 0);
     let x = s.term;
@@ -200,7 +202,7 @@ fn fixed_from_one(h: meaning::SeqHop) -> bool
 
 // Whether a hop fits between its terms, of which Empty is told.
 fn hop_fits(before: bool, after: bool, h: meaning::SeqHop) -> bool
-    ensures { λ r. ⌜ r ≡ hopFits before after h ⌝ }
+    ensures { λ r. ⌜ r ≡ hop-fits before after h ⌝ }
 {
     if before {
         return fixed_from_one(h);
@@ -214,7 +216,7 @@ fn hop_fits(before: bool, after: bool, h: meaning::SeqHop) -> bool
 // Refusal 12 of the steps after the first, which is not Empty.
 fn empties_fit(steps: &[u32], count: usize) -> bool
     requires { ⌜ (1 ≤ count) × (count * 5 ≤ length (now steps)) × (count ≤ 65536) ⌝ }
-    ensures { λ r. ⌜ r ≡ empties-fit «false» (stepsFrom (now (steps .entry)) 1 (count - 1)) ⌝ }
+    ensures { λ r. ⌜ r ≡ empties-fit «false» (steps-from (now (steps .entry)) 1 (count - 1)) ⌝ }
 {
     let mut before = false;
     let mut k = 1;
@@ -235,7 +237,7 @@ fn empties_fit(steps: &[u32], count: usize) -> bool
 // Refusal 12's test of an alternative: no Empty that leads, or that has a hop before or behind it which is not fixed from 1 on.
 pub fn steps_fit(steps: &[u32], count: usize) -> bool
     requires { ⌜ (1 ≤ count) × (count * 5 ≤ length (now steps)) × (count ≤ 65536) ⌝ }
-    ensures { λ r. ⌜ r ≡ steps-fit (stepsFrom (now (steps .entry)) 0 count) ⌝ }
+    ensures { λ r. ⌜ r ≡ steps-fit (steps-from (now (steps .entry)) 0 count) ⌝ }
 {
     let s = current::step(steps, 0);
     let x = s.term;
@@ -248,7 +250,7 @@ pub fn steps_fit(steps: &[u32], count: usize) -> bool
 // The registers of an alternative, for refusal 13: a sum, so that a hop of 4,294,967,294 is one addition.
 pub fn registers(steps: &[u32], count: usize) -> u64
     requires { ⌜ (count * 5 ≤ length (now steps)) × (count ≤ 65536) ⌝ }
-    ensures { λ r. ⌜ r ≡ registersBefore (now (steps .entry)) count ⌝ }
+    ensures { λ r. ⌜ r ≡ registers-before (now (steps .entry)) count ⌝ }
     ensures small { λ r. ⌜ r ≤ 562949953355776 ⌝ }
 {
     let mut sum = 0;

@@ -2,11 +2,11 @@
 //
 // Example: the steps Bool(0), Bool(1) after Fixed(2) take 4 words of expression and 5 words of stores.
 ghost use mathlib.Core.Path.{_≡_};
-ghost use Prim.Native.Nat.{_+_, _*_, _-_, _≤_, _<_};
+ghost use Prim.Native.Nat.{_+_, _-_, _≤_};
 ghost use lib.ListN.{length};
 ghost use Rattle.words.specs.Choice.{«pick»};
-ghost use Rattle.current.specs.Text.{hopRegisters, stepRegisters};
-ghost use Rattle.sizes.specs.Sizes.{hopTextSize, termTextSize, leadTextSize, delaysSize, hopStoresSize, gotoSize, runSize, termStoresSize, stepSize, firstSize, sizeAt, Countable};
+ghost use Rattle.current.specs.Text.{hop-registers, step-registers};
+ghost use Rattle.sizes.specs.Sizes.{hop-text-size, term-text-size, lead-text-size, delays-size, hop-stores-size, goto-size, run-size, term-stores-size, step-size, first-size, size-up-to-step, Countable};
 
 // The words of the expression, and of the stores before it.
 pub struct Size {
@@ -37,7 +37,7 @@ fn less(x: u64, y: u64) -> u64
 // The text after a hop; g are the words of the guard, e those of the text before.
 fn hop_text(h: meaning::SeqHop, g: u64, e: u64) -> u64
     requires { ⌜ (g ≤ 1048576) × (e ≤ 4194304) ⌝ }
-    ensures { λ r. ⌜ r ≡ hopTextSize g h e ⌝ }
+    ensures { λ r. ⌜ r ≡ hop-text-size g h e ⌝ }
 {
     match h {
         meaning::SeqHop::Fixed(d) => either(d == 0, e, 1 + g),
@@ -48,7 +48,7 @@ fn hop_text(h: meaning::SeqHop, g: u64, e: u64) -> u64
 // The text after a term; a are the words of its activation.
 fn term_text(x: meaning::SeqTerm, a: u64) -> u64
     requires { ⌜ a ≤ 8388608 ⌝ }
-    ensures { λ r. ⌜ r ≡ termTextSize x a ⌝ }
+    ensures { λ r. ⌜ r ≡ term-text-size x a ⌝ }
 {
     match x {
         meaning::SeqTerm::Bool(_) => a + 3,
@@ -61,7 +61,7 @@ fn term_text(x: meaning::SeqTerm, a: u64) -> u64
 
 // The text after the first term.
 fn lead_text(x: meaning::SeqTerm) -> u64
-    ensures { λ r. ⌜ r ≡ leadTextSize x ⌝ }
+    ensures { λ r. ⌜ r ≡ lead-text-size x ⌝ }
 {
     match x {
         meaning::SeqTerm::Bool(_) => 2,
@@ -73,9 +73,9 @@ fn lead_text(x: meaning::SeqTerm) -> u64
 }
 
 // The stores of d delays.
-fn delays(g: u64, d: u64, e: u64) -> u64
+pub fn delays(g: u64, d: u64, e: u64) -> u64
     requires { ⌜ (g ≤ 1048576) × (d ≤ 65536) × (e ≤ 4194304) ⌝ }
-    ensures { λ r. ⌜ r ≡ delaysSize g d e ⌝ }
+    ensures { λ r. ⌜ r ≡ delays-size g d e ⌝ }
 {
     let others = less(d, 1) * (2 + g);
     either(d == 0, 0, e + 1 + others)
@@ -83,8 +83,8 @@ fn delays(g: u64, d: u64, e: u64) -> u64
 
 // The stores of a hop.
 fn hop_stores(h: meaning::SeqHop, g: u64, e: u64) -> u64
-    requires { ⌜ (g ≤ 1048576) × (hopRegisters h ≤ 65536) × (e ≤ 4194304) ⌝ }
-    ensures { λ r. ⌜ r ≡ hopStoresSize g h e ⌝ }
+    requires { ⌜ (g ≤ 1048576) × (hop-registers h ≤ 65536) × (e ≤ 4194304) ⌝ }
+    ensures { λ r. ⌜ r ≡ hop-stores-size g h e ⌝ }
 {
     match h {
         meaning::SeqHop::Fixed(d) => delays(g, d as u64, e),
@@ -98,7 +98,7 @@ fn hop_stores(h: meaning::SeqHop, g: u64, e: u64) -> u64
 // The stores of a goto.
 fn goto_size(k: u64, a: u64) -> u64
     requires { ⌜ (k ≤ 4294967295) × (a ≤ 8388608) ⌝ }
-    ensures { λ r. ⌜ r ≡ gotoSize k a ⌝ }
+    ensures { λ r. ⌜ r ≡ goto-size k a ⌝ }
 {
     let stages = less(k, 2) * 11;
     either(k < 2, a + 7, a + 7 + (a + 12) + stages)
@@ -107,7 +107,7 @@ fn goto_size(k: u64, a: u64) -> u64
 // The stores of an "at least" repetition.
 fn run_size(k: u64, a: u64) -> u64
     requires { ⌜ (k ≤ 4294967295) × (a ≤ 8388608) ⌝ }
-    ensures { λ r. ⌜ r ≡ runSize k a ⌝ }
+    ensures { λ r. ⌜ r ≡ run-size k a ⌝ }
 {
     let stages = less(k, 2) * 5;
     either(k < 2, a + 6, a + 4 + stages + 7)
@@ -116,7 +116,7 @@ fn run_size(k: u64, a: u64) -> u64
 // The stores of a nonconsecutive repetition x of count k: the goto's, and its extension.
 fn nonconsec_size(x: meaning::SeqTerm, k: u64, a: u64) -> u64
     requires { ⌜ (k ≤ 4294967295) × (a ≤ 8388608) ⌝ }
-    ensures { λ r. ⌜ r ≡ gotoSize k a + termTextSize x a + 1 ⌝ }
+    ensures { λ r. ⌜ r ≡ goto-size k a + term-text-size x a + 1 ⌝ }
 {
     let first = goto_size(k, a);
     let text = term_text(x, a);
@@ -126,7 +126,7 @@ fn nonconsec_size(x: meaning::SeqTerm, k: u64, a: u64) -> u64
 // The stores of a term.
 fn term_stores(x: meaning::SeqTerm, a: u64) -> u64
     requires { ⌜ a ≤ 8388608 ⌝ }
-    ensures { λ r. ⌜ r ≡ termStoresSize x a ⌝ }
+    ensures { λ r. ⌜ r ≡ term-stores-size x a ⌝ }
 {
     match x {
         meaning::SeqTerm::Bool(_) => 0,
@@ -139,8 +139,8 @@ fn term_stores(x: meaning::SeqTerm, a: u64) -> u64
 
 // A later step.
 fn step_size(s: meaning::SeqStep, g: u64, z: Size) -> Size
-    requires { ⌜ (g ≤ 1048576) × (stepRegisters s ≤ 65536) × (z .text ≤ 4194304) × (z .stores ≤ 9007199254740992) ⌝ }
-    ensures { λ r. ⌜ r ≡ stepSize g s z ⌝ }
+    requires { ⌜ (g ≤ 1048576) × (step-registers s ≤ 65536) × (z .text ≤ 4194304) × (z .stores ≤ 9007199254740992) ⌝ }
+    ensures { λ r. ⌜ r ≡ step-size g s z ⌝ }
 {
     let x = s.term;
     let h = current::reach(s);
@@ -155,7 +155,7 @@ fn step_size(s: meaning::SeqStep, g: u64, z: Size) -> Size
 // The first term, with its guard.
 fn first_size(x: meaning::SeqTerm, g: u64) -> Size
     requires { ⌜ g ≤ 1048576 ⌝ }
-    ensures { λ r. ⌜ r ≡ firstSize g x ⌝ }
+    ensures { λ r. ⌜ r ≡ first-size g x ⌝ }
 {
     Size {
         text: lead_text(x) + g,
@@ -166,7 +166,7 @@ fn first_size(x: meaning::SeqTerm, g: u64) -> Size
 // The sizes of an alternative of count steps.
 pub fn sizes(steps: &[u32], guard: &[u32], count: usize) -> Size
     requires { ⌜ Countable (now steps) (now guard) count ⌝ }
-    ensures { λ r. ⌜ r ≡ sizeAt (now (steps .entry)) (length (now (guard .entry))) (count - 1) ⌝ }
+    ensures { λ r. ⌜ r ≡ size-up-to-step (now (steps .entry)) (length (now (guard .entry))) (count - 1) ⌝ }
 {
     let g = guard.len() as u64;
     let s = current::step(steps, 0);

@@ -7,7 +7,7 @@ use Prim.Native.Nat.{ℕ, zero, suc, _+_, _*_, _%_, _≤_}
 use lib.Dec.{T, eqb, leb, ltb, leb→le}
 use lib.ListN.{length}
 use Rattle.words.specs.Choice.{pick, pick-case}
-use Rattle.meaning.specs.Tree.{finite, unbounded, Seq, atom, delay, consec, goto, nonconsec, throughout, within, Operand, operand, nodeAt, nodes, below, root}
+use Rattle.meaning.specs.Tree.{finite, unbounded, Seq, atom, delay, consec, goto, nonconsec, throughout, within, Operand, operand, node-at, nodes, below, root}
 use Rattle.meaning.specs.Alternative.{SeqAlt, expand}
 use Rattle.meaning.specs.Refusals.{lowest-failing, formed-node, used-once, range-node, table, entries, plain, limited, and-then, deep-enough, is-boolean, over-boolean, walk-in, walk, within-fits, limited-within, walk-root, room-of, Found, at, nowhere}
 use Rattle.meaning.specs.Lower.{fits, after-walk, after-table, after-nothing, lower}
@@ -60,9 +60,9 @@ lowest-failing-numbered refusal test (suc count) n then r t =
 table-numbered : (t : List ℕ) → OfTable (table t)
 unfolding table
 table-numbered t =
-    let ranges = lowest-failing-numbered 3 (λ n. range-node (nodeAt t n)) (nodes t) 0 Formed (refused 3 tt tt) tt in
+    let ranges = lowest-failing-numbered 3 (λ n. range-node (node-at t n)) (nodes t) 0 Formed (refused 3 tt tt) tt in
     let once = lowest-failing-numbered 2 (used-once t) (below (nodes t)) 0 _ (refused 2 tt tt) ranges in
-    let formed = lowest-failing-numbered 1 (λ n. formed-node n (nodeAt t n)) (nodes t) 0 _ (refused 1 tt tt) once in
+    let formed = lowest-failing-numbered 1 (λ n. formed-node n (node-at t n)) (nodes t) 0 _ (refused 1 tt tt) once in
     pick-case OfTable (eqb (length t % 5) 0)
     (λ _. pick-case OfTable (eqb (length t) 0) (λ _. refused 1 tt tt) (λ _. pick-case OfTable (ltb 20480 (length t)) (λ _. refused 1 tt tt) (λ _. formed)))
     (λ _. refused 1 tt tt)

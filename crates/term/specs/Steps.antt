@@ -1,7 +1,8 @@
--- A step as five words: the term's tag, atom and count, and the hop's tag and length.
--- Example: `stepWords` of Bool 7 reached by AtLeast 2 is 1 ∷ 7 ∷ 0 ∷ 1 ∷ 2 ∷ [].
-use mathlib.Core.List.{List, [], _∷_}
-use Prim.Native.Nat.{ℕ, _+_}
+-- A step as five words: the term's tag, atom and count, and the hop's tag and length. And steps one after the other.
+-- Example: `step-words` of Bool 7 reached by AtLeast 2 is 1 ∷ 7 ∷ 0 ∷ 1 ∷ 2 ∷ [].
+use mathlib.Core.Path.{_≡_}
+use mathlib.Core.List.{List, [], _∷_, _++_}
+use Prim.Native.Nat.{ℕ, zero, suc, _+_, _*_}
 use lib.Dec.{eqb}
 use lib.ListN.{getD}
 use Rattle.words.specs.Choice.{pick}
@@ -11,50 +12,69 @@ use Rattle.meaning.specs.declared.SeqHop.{SeqHop}
 use Rattle.meaning.specs.declared.SeqHop.the-variants.{Fixed, AtLeast}
 use Rattle.meaning.specs.declared.SeqStep.{SeqStep}
 
-abbrev pub termTag : SeqTerm → ℕ
-termTag (BoolTerm a) = 1
-termTag (Goto b k) = 2
-termTag (Nonconsec b k) = 3
-termTag (ConsecAtLeast b k) = 4
-termTag Empty = 0
+abbrev pub term-tag : SeqTerm → ℕ
+term-tag (BoolTerm a) = 1
+term-tag (Goto b k) = 2
+term-tag (Nonconsec b k) = 3
+term-tag (ConsecAtLeast b k) = 4
+term-tag Empty = 0
 
-abbrev pub termAtom : SeqTerm → ℕ
-termAtom (BoolTerm a) = a
-termAtom (Goto b k) = b
-termAtom (Nonconsec b k) = b
-termAtom (ConsecAtLeast b k) = b
-termAtom Empty = 0
+abbrev pub term-atom : SeqTerm → ℕ
+term-atom (BoolTerm a) = a
+term-atom (Goto b k) = b
+term-atom (Nonconsec b k) = b
+term-atom (ConsecAtLeast b k) = b
+term-atom Empty = 0
 
-abbrev pub termCount : SeqTerm → ℕ
-termCount (BoolTerm a) = 0
-termCount (Goto b k) = k
-termCount (Nonconsec b k) = k
-termCount (ConsecAtLeast b k) = k
-termCount Empty = 0
+abbrev pub term-count : SeqTerm → ℕ
+term-count (BoolTerm a) = 0
+term-count (Goto b k) = k
+term-count (Nonconsec b k) = k
+term-count (ConsecAtLeast b k) = k
+term-count Empty = 0
 
-abbrev pub hopTag : SeqHop → ℕ
-hopTag (Fixed d) = 0
-hopTag (AtLeast m) = 1
+abbrev pub hop-tag : SeqHop → ℕ
+hop-tag (Fixed d) = 0
+hop-tag (AtLeast m) = 1
 
-abbrev pub hopLength : SeqHop → ℕ
-hopLength (Fixed d) = d
-hopLength (AtLeast m) = m
+abbrev pub hop-ticks : SeqHop → ℕ
+hop-ticks (Fixed d) = d
+hop-ticks (AtLeast m) = m
 
 -- The step's words.
-unfoldable pub stepWords : SeqStep → List ℕ
-stepWords s = termTag (s .term) ∷ termAtom (s .term) ∷ termCount (s .term) ∷ hopTag (s .hop) ∷ hopLength (s .hop) ∷ []
+unfoldable pub step-words : SeqStep → List ℕ
+step-words s = term-tag (s .term) ∷ term-atom (s .term) ∷ term-count (s .term) ∷ hop-tag (s .hop) ∷ hop-ticks (s .hop) ∷ []
 
 -- The term and the hop that such words stand for; any other tag is Empty, or "at least".
-unfoldable pub termFrom : ℕ → ℕ → ℕ → SeqTerm
-termFrom tag atom count =
+unfoldable pub term-from : ℕ → ℕ → ℕ → SeqTerm
+term-from tag atom count =
     pick (eqb tag 1) (BoolTerm atom) (pick (eqb tag 2) (Goto atom count) (pick (eqb tag 3) (Nonconsec atom count) (pick (eqb tag 4) (ConsecAtLeast atom count) Empty)))
 
-unfoldable pub hopFrom : ℕ → ℕ → SeqHop
-hopFrom tag length = pick (eqb tag 0) (Fixed length) (AtLeast length)
+unfoldable pub hop-from : ℕ → ℕ → SeqHop
+hop-from tag length = pick (eqb tag 0) (Fixed length) (AtLeast length)
 
 -- The step that stands at a place of a list.
-unfoldable pub stepAt : List ℕ → ℕ → SeqStep
-stepAt s at = record {
-  term = termFrom (getD s at 0) (getD s (at + 1) 0) (getD s (at + 2) 0);
-  hop = hopFrom (getD s (at + 3) 0) (getD s (at + 4) 0);
+unfoldable pub step-at : List ℕ → ℕ → SeqStep
+step-at s at = record {
+  term = term-from (getD s at 0) (getD s (at + 1) 0) (getD s (at + 2) 0);
+  hop = hop-from (getD s (at + 3) 0) (getD s (at + 4) 0);
 }
+
+-- Steps one after the other, five words each.
+unfoldable pub steps-words : List SeqStep → List ℕ
+steps-words [] = []
+steps-words (s ∷ ss) = step-words s ++ steps-words ss
+
+-- The k-th of the steps that are stored one after the other.
+abbrev pub nth-step : List ℕ → ℕ → SeqStep
+nth-step steps k = step-at steps (k * 5)
+
+-- So many of them, from the k-th on.
+unfoldable pub steps-from : List ℕ → ℕ → ℕ → List SeqStep
+steps-from steps k zero = []
+steps-from steps k (suc count) = nth-step steps k ∷ steps-from steps (suc k) count
+
+-- These steps are stored, the first of them as the k-th.
+abbrev pub Stored : List ℕ → ℕ → List SeqStep → Type 0
+Stored steps k [] = Unit {0}
+Stored steps k (s ∷ ss) = (nth-step steps k ≡ s) × Stored steps (suc k) ss

@@ -5,10 +5,10 @@ ghost use mathlib.Core.Path.{_≡_};
 ghost use Prim.Native.Nat.{_+_, _≤_};
 ghost use lib.ListN.{length};
 ghost use Rattle.words.specs.Written.{Wrote};
-ghost use Rattle.term.specs.Steps.{termTag, termAtom, termCount, hopTag, hopLength, termFrom, hopFrom, stepWords, stepAt};
+ghost use Rattle.term.specs.Steps.{term-tag, term-atom, term-count, hop-tag, hop-ticks, term-from, hop-from, step-words, step-at};
 
 fn term_tag(x: meaning::SeqTerm) -> u32
-    ensures { λ r. ⌜ r ≡ termTag x ⌝ }
+    ensures { λ r. ⌜ r ≡ term-tag x ⌝ }
 {
     match x {
         meaning::SeqTerm::Bool(_) => 1,
@@ -20,7 +20,7 @@ fn term_tag(x: meaning::SeqTerm) -> u32
 }
 
 fn term_atom(x: meaning::SeqTerm) -> u32
-    ensures { λ r. ⌜ r ≡ termAtom x ⌝ }
+    ensures { λ r. ⌜ r ≡ term-atom x ⌝ }
 {
     match x {
         meaning::SeqTerm::Bool(a) => a,
@@ -32,7 +32,7 @@ fn term_atom(x: meaning::SeqTerm) -> u32
 }
 
 fn term_count(x: meaning::SeqTerm) -> u32
-    ensures { λ r. ⌜ r ≡ termCount x ⌝ }
+    ensures { λ r. ⌜ r ≡ term-count x ⌝ }
 {
     match x {
         meaning::SeqTerm::Bool(_) => 0,
@@ -44,7 +44,7 @@ fn term_count(x: meaning::SeqTerm) -> u32
 }
 
 fn hop_tag(h: meaning::SeqHop) -> u32
-    ensures { λ r. ⌜ r ≡ hopTag h ⌝ }
+    ensures { λ r. ⌜ r ≡ hop-tag h ⌝ }
 {
     match h {
         meaning::SeqHop::Fixed(_) => 0,
@@ -53,7 +53,7 @@ fn hop_tag(h: meaning::SeqHop) -> u32
 }
 
 fn hop_length(h: meaning::SeqHop) -> u32
-    ensures { λ r. ⌜ r ≡ hopLength h ⌝ }
+    ensures { λ r. ⌜ r ≡ hop-ticks h ⌝ }
 {
     match h {
         meaning::SeqHop::Fixed(d) => d,
@@ -64,7 +64,7 @@ fn hop_length(h: meaning::SeqHop) -> u32
 // Puts the step's five words from the place on; the next place.
 pub fn store(out: &mut [u32], at: usize, s: meaning::SeqStep) -> usize
     requires { ⌜ at + 5 ≤ length (now out) ⌝ }
-    ensures { λ next. ⌜ Wrote (now (out .entry)) (now (out .exit)) at next (stepWords s) ⌝ }
+    ensures { λ next. ⌜ Wrote (now (out .entry)) (now (out .exit)) at next (step-words s) ⌝ }
 {
     let x = s.term;
     let h = s.hop;
@@ -76,7 +76,7 @@ pub fn store(out: &mut [u32], at: usize, s: meaning::SeqStep) -> usize
 }
 
 fn term_from(tag: u32, atom: u32, count: u32) -> meaning::SeqTerm
-    ensures { λ r. ⌜ r ≡ termFrom tag atom count ⌝ }
+    ensures { λ r. ⌜ r ≡ term-from tag atom count ⌝ }
 {
     if tag == 1 {
         return meaning::SeqTerm::Bool(atom);
@@ -94,7 +94,7 @@ fn term_from(tag: u32, atom: u32, count: u32) -> meaning::SeqTerm
 }
 
 fn hop_from(tag: u32, length: u32) -> meaning::SeqHop
-    ensures { λ r. ⌜ r ≡ hopFrom tag length ⌝ }
+    ensures { λ r. ⌜ r ≡ hop-from tag length ⌝ }
 {
     if tag == 0 {
         return meaning::SeqHop::Fixed(length);
@@ -105,7 +105,7 @@ fn hop_from(tag: u32, length: u32) -> meaning::SeqHop
 // The step that stands at the place.
 pub fn load(s: &[u32], at: usize) -> meaning::SeqStep
     requires { ⌜ at + 5 ≤ length (now s) ⌝ }
-    ensures { λ r. ⌜ r ≡ stepAt (now (s .entry)) at ⌝ }
+    ensures { λ r. ⌜ r ≡ step-at (now (s .entry)) at ⌝ }
 {
     let x = term_from(s[at], s[at + 1], s[at + 2]);
     let h = hop_from(s[at + 3], s[at + 4]);

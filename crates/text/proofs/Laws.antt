@@ -1,27 +1,19 @@
 -- Bytes written part by part, as the code meets them; and how many a part has at most, which is the room that its writer asks for.
 use mathlib.Core.Bool.{Bool, true, false}
 use mathlib.Core.Path.{_≡_, refl, sym}
-use mathlib.Core.List.{List, [], _∷_, _++_}
+use mathlib.Core.List.{List, [], _∷_}
 use Prim.Native.Nat.{ℕ, zero, suc, _+_, _-_, _<_, _≤_, _/_, _%_}
 use Prim.Native.Char.{code}
 use native.Mathlib.Omega.{arith}
 use borrow.Author.Tests.{lt-ltb, le-ltb, eq-eqb, ne-eqb}
 use lib.Dec.{ltb}
-use lib.ListN.{length, getD, drop, drop-of-length-le, length-append}
+use lib.ListN.{length, length-append}
 use Rattle.words.specs.Choice.{pick, pick-true, pick-false, pick-case}
 use Rattle.words.specs.Written.{written, Wrote}
-use Rattle.words.proofs.Laws.{Going, begin, go, done, last, same-words, drop-here}
+use Rattle.words.proofs.Laws.{same-words, two-parts, three-parts}
 use Rattle.meaning.specs.declared.Lowered.{Lowered}
 use Rattle.meaning.specs.declared.Lowered.the-variants.{Listing, Refused}
 use Rattle.text.specs.Text.{bytes, digits, decimal, decimal-then, first-line-text}
-
--- Two parts and three, one behind the other.
-pub two-parts : {o o₁ o₂ : List ℕ} {at p q : ℕ} {xs ys : List ℕ} → Wrote o o₁ at p xs → Wrote o₁ o₂ p q ys → Wrote o o₂ at q (xs ++ ys)
-two-parts {o} {at = at} {xs = xs} {ys} x y = last (go xs ys (begin o at (xs ++ ys)) x) y
-
-pub three-parts : {o o₁ o₂ o₃ : List ℕ} {at p q r : ℕ} {xs ys zs : List ℕ}
-    → Wrote o o₁ at p xs → Wrote o₁ o₂ p q ys → Wrote o₂ o₃ q r zs → Wrote o o₃ at r (xs ++ (ys ++ zs))
-three-parts x y z = two-parts x (two-parts y z)
 
 -- What a branch writes where it is taken is what the choice says.
 pub wrote-first : {o o′ : List ℕ} {at p : ℕ} {b : Bool} {xs : List ℕ} (ys : List ℕ) → b ≡ true → Wrote o o′ at p xs → Wrote o o′ at p (pick b xs ys)
@@ -40,25 +32,6 @@ ends-within ws few w = omega (arith, w .ends)
 -- A choice has no more bytes than the longer branch.
 pub pick-few : {k : ℕ} (b : Bool) (xs ys : List ℕ) → length xs ≤ k → length ys ≤ k → length (pick b xs ys) ≤ k
 pick-few {k} b xs ys x y = pick-case (λ (ws : List ℕ). length ws ≤ k) b (λ e. x) λ e. y
-
--- The loop of `copied`: the bytes from the i-th on remain.
-pub record Copying (copy o : List ℕ) (at : ℕ) (o′ : List ℕ) (p i : ℕ) : Type 0 where
-  pub inside : i ≤ length copy
-  pub place : p ≡ at + i
-  pub long : length o′ ≡ length o
-  pub going : Going o at copy o′ p (drop i copy)
-
-pub copying-begins : (copy o : List ℕ) (at : ℕ) → Copying copy o at o at 0
-copying-begins copy o at = record { inside = omega arith; place = omega arith; long = refl; going = begin o at copy }
-
-pub copying-on : {copy o : List ℕ} {at : ℕ} {o′ o″ : List ℕ} {p q i : ℕ} → Copying copy o at o′ p i → i < length copy
-    → Wrote o′ o″ p q (getD copy i 0 ∷ []) → Copying copy o at o″ q (i + 1)
-copying-on {copy} {i = i} c h w =
-    let next = go (getD copy i 0 ∷ []) (drop (i + 1) copy) (rw (drop-here copy i h) at (c .going)) w in
-    record { inside = omega arith; place = omega (arith, c .place, w .ends); long = next .long; going = next }
-
-pub copying-ends : {copy o : List ℕ} {at : ℕ} {o′ : List ℕ} {p i : ℕ} → Copying copy o at o′ p i → length copy ≤ i → Wrote o o′ at p copy
-copying-ends {copy} {i = i} c h = done (rw (drop-of-length-le copy {i = i} h) at (c .going))
 
 -- A number of at most so many digits has no more bytes than that.
 pub digits-few : (most n : ℕ) → length (digits most n) ≤ most

@@ -10,13 +10,13 @@ use lib.ListN.{length, getD, take, drop, drop-of-length-le, length-append, lengt
 use lib.Seq.{getD-drop, drop-drop, length-take-le}
 use Rattle.words.specs.Choice.{pick, pick-true, pick-false}
 use Rattle.words.specs.Written.{Wrote}
-use Rattle.words.proofs.Laws.{Going, begin, go, done, drop-here, length-written}
+use Rattle.words.proofs.Laws.{Going, begin, go, done, drop-here, length-written, two-parts}
 use Rattle.meaning.specs.Listing.{operation, argument}
 use Rattle.meaning.specs.declared.Lowered.{Lowered}
 use Rattle.meaning.specs.declared.Lowered.the-variants.{Listing, Refused}
 use Rattle.text.specs.Text.{bytes, decimal, token-text, tag-text, line-start-text, tokens-text, line-text, lines-text}
 use Rattle.text.specs.Text.{expression-length, first-line-text, words-listed, answer-text}
-use Rattle.text.proofs.Laws.{digits-few, pick-few, ends-within, two-parts, first-line-few, first-line-end}
+use Rattle.text.proofs.Laws.{digits-few, pick-few, ends-within, first-line-few, first-line-end}
 
 -- A token has at most 21 bytes, a letter and twenty digits; a tag has three, and what stands before the tokens 26.
 token-few : (w : ℕ) → length (token-text w) ≤ 21

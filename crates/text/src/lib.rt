@@ -2,7 +2,7 @@
 //
 // Example: for `a ##1 b` it is "ok 1 8 2", "seq 0 = a0 any" and "match = r0 a1 any and", a line each.
 ghost use mathlib.Core.Path.{_≡_};
-ghost use mathlib.Core.List.{[], _∷_, _++_};
+ghost use mathlib.Core.List.{[], _∷_};
 ghost use Prim.Native.Nat.{_+_, _*_, _≤_, _<_};
 ghost use lib.ListN.{length, drop};
 ghost use Rattle.words.specs.Written.{Wrote};

@@ -14,7 +14,8 @@ use borrow.Author.Tests.{eq-eqb, le-ltb, ltb-false, eqb-true, eqb-false}
 use Rattle.words.specs.Choice.{pick, pick-true, pick-false, pick-case}
 use Rattle.meaning.specs.Listing.{operation, argument}
 use Rattle.meaning.specs.Tick.{negated, anded, ored, stack-after, all-bits}
-use Rattle.listing.proofs.Laws.{second-holds, value-row, change-row, join-row}
+use Rattle.words.proofs.Taken.{second-holds}
+use Rattle.listing.proofs.Laws.{value-row, change-row, join-row}
 use Rattle.tick.specs.Stack.{stack-in, Lent, value-of, Applicable, Applied}
 
 -- Zero AND a bit is zero.
@@ -51,12 +52,12 @@ two-off places h k =
 -- The first of a list of bits.
 pub first-bit : (x : ℕ) (st : List ℕ) → all-bits (x ∷ st) ≡ true → x ≤ 1
 unfolding all-bits
-first-bit x st e = ltb-false 1 x (second-holds (ltb 1 x) (all-bits st) e .0)
+first-bit x st e = ltb-false 1 x (second-holds (ltb 1 x) e .0)
 
 -- The bits behind the first.
 pub rest-bits : (x : ℕ) (st : List ℕ) → all-bits (x ∷ st) ≡ true → all-bits st ≡ true
 unfolding all-bits
-rest-bits x st e = second-holds (ltb 1 x) (all-bits st) e .1
+rest-bits x st e = second-holds (ltb 1 x) e .1
 
 -- One bit more.
 more-bits : (x : ℕ) (st : List ℕ) → x ≤ 1 → all-bits st ≡ true → all-bits (x ∷ st) ≡ true

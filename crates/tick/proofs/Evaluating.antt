@@ -3,7 +3,7 @@
 use mathlib.Core.Path.{_≡_, refl, sym, _∙_}
 use mathlib.Core.Bool.{Bool, true, false}
 use mathlib.Core.List.{List, [], _∷_, tail}
-use Prim.Native.Nat.{ℕ, zero, suc, _+_, _-_, _<_, _≤_, max}
+use Prim.Native.Nat.{ℕ, zero, suc, _+_, _<_, _≤_, max}
 use native.Mathlib.Nat.{zero-add, add-zero, add-assoc, le-max-left, le-max-right}
 use native.Mathlib.Omega.{arith}
 use lib.Dec.{eqb, ltb}
@@ -17,7 +17,9 @@ use Rattle.meaning.specs.Listing.{operation, argument, height, is-store, regist
 use Rattle.meaning.specs.Check.{check-from, check}
 use Rattle.meaning.specs.Tick.{top, stack-after, stored, matched, all-bits, named-bits}
 use Rattle.meaning.specs.declared.Checked.the-variants.{Described}
-use Rattle.listing.proofs.Laws.{second-holds, end-row, Fitting, register-below, described-fits, described-goes-on, described-ends}
+use Rattle.words.proofs.Taken.{second-holds}
+use Rattle.meaning.proofs.Operations.{operation-is-store, below-9-is-no-store}
+use Rattle.listing.proofs.Laws.{end-row, Fitting, register-below, described-fits, described-goes-on, described-ends}
 use Rattle.tick.specs.Stack.{stack-in, Applicable, Applied, Ready, Evaluated}
 use Rattle.tick.proofs.AppliedWord.{bits-after, first-bit, rest-bits}
 use Rattle.tick.proofs.Place.{word-at, behind}
@@ -31,7 +33,7 @@ bit-at (x ∷ xs) (suc i) e h = bit-at xs i (rest-bits x xs e) (omega arith)
 -- The atoms named by the later words are bits too.
 later-bits : (atom above later : Bool) → pick atom (pick above false later) later ≡ true → later ≡ true
 unfolding pick
-later-bits true above later e = second-holds above later e .1
+later-bits true above later e = second-holds above e .1
 later-bits false above later e = e
 
 -- What one word does to the stores and the match bit that remain.
@@ -77,12 +79,7 @@ put-there : {o o′ : List ℕ} {k n v : ℕ} → n ≡ k + 1 → o′ ≡ set o
 unfolding written
 put-there e q = record { holds = q; ends = e }
 
--- Operations 1 to 8 are no stores.
-value-no-store : (w : ℕ) → operation w < 9 → is-store w ≡ false
-unfolding is-store
-value-no-store w h = pick-false _ _ (lt-leb 9 (operation w) h)
-
--- Nor is the match.
+-- The match is no store.
 match-no-store : (w : ℕ) → operation w ≡ 14 → is-store w ≡ false
 unfolding is-store
 match-no-store w q = pick-true _ _ (le-leb 9 (operation w) (omega arith)) ∙ lt-leb (operation w) 13 (omega arith)
@@ -90,11 +87,6 @@ match-no-store w q = pick-true _ _ (le-leb 9 (operation w) (omega arith)) ∙ lt
 -- They do not count.
 no-store-more : (w k : ℕ) → is-store w ≡ false → k + pick (is-store w) 1 0 ≡ k
 no-store-more w k q = rw (pick-false {A = ℕ} 1 0 q) (add-zero k)
-
--- Operations 9 to 13 are stores.
-a-store : (w : ℕ) → 9 ≤ operation w → operation w ≤ 13 → is-store w ≡ true
-unfolding is-store
-a-store w h k = pick-true _ _ (le-leb 9 (operation w) h) ∙ le-leb (operation w) 13 k
 
 -- The words before the place i are evaluated.
 pub record Evaluating (ws cur atoms next next′ stack stack′ : List ℕ) (k h i : ℕ) : Type 0 where
@@ -159,7 +151,7 @@ module _ {ws cur atoms next next′ stack stack′ : List ℕ} {k h i : ℕ} (r 
 
   -- An atom that is named is a bit.
   atom-bit-here : operation (word-at ws i) ≡ 1 → getD atoms (argument (word-at ws i)) 0 ≤ 1
-  atom-bit-here q = ltb-false _ _ (second-holds _ _ (sym (pick-true _ _ (eq-eqb _ _ q)) ∙ bits-here) .0)
+  atom-bit-here q = ltb-false _ _ (second-holds _ (sym (pick-true _ _ (eq-eqb _ _ q)) ∙ bits-here) .0)
 
   -- A register that is named is a bit.
   register-bit-here : operation (word-at ws i) ≡ 2 → getD cur (argument (word-at ws i)) 0 ≤ 1
@@ -194,7 +186,7 @@ module _ {ws cur atoms next next′ stack stack′ : List ℕ} {k h i : ℕ} (r 
       → Evaluating ws cur atoms next next′ stack stack″ k n (i + 1)
   evaluating-on {stack″} {n} q a =
       let past : operation (word-at ws i) ≡ 14 → ⊥ = λ z. omega arith in
-      let none = value-no-store (word-at ws i) q in
+      let none = below-9-is-no-store (word-at ws i) q in
       record {
         inside = omega arith;
         going = rw (a .holds, ← stored-past cur atoms (word-at ws i) (behind ws i) (stack-in stack′ h) none) (rw (drop-here ws i l) at (g .going));
@@ -227,7 +219,7 @@ module _ {ws cur atoms next next′ stack stack′ : List ℕ} {k h i : ℕ} (r 
     module _ (o : operation (word-at ws i) ≡ 14 → ⊥) where
       -- What is not the match is a store.
       store-here : is-store (word-at ws i) ≡ true
-      store-here = a-store (word-at ws i) q (omega (arith, fitting-here .operand .last))
+      store-here = operation-is-store (word-at ws i) q (omega (arith, fitting-here .operand .last))
 
       -- Its register lies within `next`.
       pub room-for-store : k < length next′

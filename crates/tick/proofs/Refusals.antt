@@ -21,7 +21,7 @@ use Rattle.meaning.specs.declared.Ticked.the-variants.{Match, Refused}
 use Rattle.tick.specs.Survey.{wanted, lacking, surveyed-if, surveyed}
 use Rattle.tick.specs.Stack.{Ready, Evaluated}
 use Rattle.tick.specs.Stepped.{Stepped}
-use Rattle.tick.proofs.Tests.{one-test, no-test, second-false}
+use Rattle.words.proofs.Taken.{one-test, no-test, neither-holds}
 use Rattle.tick.specs.declared.Wanted.{Wanted}
 use Rattle.tick.specs.declared.Surveyed.{Surveyed}
 use Rattle.tick.specs.declared.Surveyed.the-variants.{Whole, Faulty}
@@ -91,7 +91,7 @@ module _ {s : Surveyed} (ws atoms : List ℕ) (e : s ≡ surveyed ws atoms) wher
 pub part-long : {b : Bool} (v : Wanted) (cur : List ℕ) (atoms next stack : ℕ) → b ≡ lacking v (length cur) atoms next stack → b ≡ false
     → v .registers ≡ length (take (v .registers) cur)
 unfolding lacking
-part-long v cur atoms next stack c q = sym (length-take-le (v .registers) cur (ltb-false _ _ (second-false _ _ (sym c ∙ q) .0)))
+part-long v cur atoms next stack c q = sym (length-take-le (v .registers) cur (ltb-false _ _ (neither-holds _ (sym c ∙ q) .0)))
 
 -- A described listing, whose wants are v.
 module _ {v : Wanted} {b : Bool} (ws cur atoms next stack : List ℕ) (d : check ws ≡ Described) (e : v ≡ wanted ws atoms)
@@ -135,9 +135,9 @@ module _ {v : Wanted} {b : Bool} (ws cur atoms next stack : List ℕ) (d : check
       long : (registers ws ≤ length cur) × (registers ws ≤ length next) × (atoms-named ws ≤ length atoms) × (deepest ws ≤ length stack)
       unfolding too-short
       long =
-          let g = second-false _ _ (short ∙ q) in
-          let h = second-false _ _ (g .1) in
-          let i = second-false _ _ (h .1) in
+          let g = neither-holds _ (short ∙ q) in
+          let h = neither-holds _ (g .1) in
+          let i = neither-holds _ (h .1) in
           (ltb-false _ _ (g .0), ltb-false _ _ (h .0), ltb-false _ _ (i .0), ltb-false _ _ (i .1))
 
       -- The evaluation may begin.

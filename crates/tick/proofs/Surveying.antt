@@ -23,7 +23,7 @@ use Rattle.tick.specs.declared.Tally.{Tally}
 use Rattle.tick.specs.declared.Noted.{Noted}
 use Rattle.tick.specs.declared.Noted.the-variants.{Fits, Unfit}
 use Rattle.tick.specs.declared.Surveyed.the-variants.{Whole, Faulty}
-use Rattle.tick.proofs.Tests.{one-test, made-twice}
+use Rattle.words.proofs.Taken.{one-test, made-twice}
 use Rattle.tick.proofs.Place.{word-at, behind}
 
 -- The exact check finds the fault that is there.

@@ -8,13 +8,13 @@ use lib.Dec.{eqb, ltb}
 use lib.ListN.{length, replicate, length-replicate, getD-replicate}
 use borrow.Author.Tests.{eqb-true, ltb-true, ne-eqb, le-ltb, eq-eqb}
 use Rattle.words.specs.Choice.{pick, pick-case, pick-true, pick-false}
-use Rattle.meaning.specs.Tree.{nodeAt, nodes, below}
+use Rattle.meaning.specs.Tree.{node-at, nodes, below}
 use Rattle.meaning.specs.Refusals.{lowest-failing, formed-node, used-once, table}
 use Rattle.meaning.specs.Lowerable.{FormedTable}
 use Rattle.meaning.specs.declared.Node.{Node}
 use Rattle.meaning.specs.declared.Table.{Table}
 use Rattle.meaning.specs.declared.Table.the-variants.{Formed, Refused as Misformed}
-use Rattle.meaning.proofs.Taken.{false-is-not-true, both-hold}
+use Rattle.words.proofs.Taken.{false-is-not-true, both-hold}
 use Rattle.meaning.proofs.Formed.{each-passes, a-formed-table}
 use Rattle.tree.specs.Checks.{formed-at, ranged-at, counted-once, AllFormed}
 use Rattle.tree.specs.Uses.{used-by, OperandsWithin, AllOperandsWithin}
@@ -50,7 +50,7 @@ operands-within t used count long f = record {
   inside = f .inside;
   few = f .few;
   each = λ n h.
-      let o = operands-lower n (nodeAt t n) (each-passes 1 (formed-at t) count 0 Formed (f .formed) n (omega arith) (omega arith)) in
+      let o = operands-lower n (node-at t n) (each-passes 1 (formed-at t) count 0 Formed (f .formed) n (omega arith) (omega arith)) in
       record { left = λ u. let l = o .left u in omega (arith, f .few); right = λ u. let l = o .right u in omega (arith, f .few) };
 }
 
@@ -65,10 +65,6 @@ misused-counted t (suc count) {used} f u e =
     rw (u, ← f .whole) (once-counted t none k (suc count) within (getD-replicate {A = ℕ} 4096 k 0 0 (omega (arith, f .few)))) in
     let q : suc count - 1 ≡ count = omega arith in
     e ∙ rw q (same-lowest 2 (counted-once used) (used-once t) Formed count 0 same)
-
-positive : (n : ℕ) → (n ≡ 0 → ⊥) → 1 ≤ n
-positive zero f = absurd (f refl)
-positive (suc n) f = omega arith
 
 -- The searches one after the other, as the code makes them.
 module _ (t : List ℕ) (fives : length t % 5 ≡ 0) (some : length t ≡ 0 → ⊥) (few : length t ≤ 20480) where
@@ -92,7 +88,7 @@ module _ (t : List ℕ) (fives : length t % 5 ≡ 0) (some : length t ≡ 0 → 
 
   -- .. or lets pass, and 2 can count the uses.
   pub all-formed : {r : Table} → r ≡ lowest-failing 1 (formed-at t) (nodes t) 0 Formed → r ≡ Formed → AllFormed t (nodes t)
-  all-formed e q = record { whole = refl; inside = omega arith; some = omega (arith, positive (length t) some); few = omega arith; formed = sym e ∙ q }
+  all-formed e q = record { whole = refl; inside = omega arith; some = omega arith; few = omega arith; formed = sym e ∙ q }
 
   -- Then 2 and 3 are left.
   passed-1 : {r : Table} → r ≡ formed Formed → r ≡ Formed → table t ≡ once ranges

@@ -8,11 +8,8 @@ use Rattle.words.specs.Choice.{pick, pick-true, pick-false}
 use Rattle.meaning.specs.Refusals.{lowest-failing}
 use Rattle.meaning.specs.declared.Table.{Table}
 use Rattle.meaning.specs.declared.Table.the-variants.{Formed, Refused as Misformed}
-use Rattle.meaning.proofs.Taken.{first-taken}
-
--- A refusal is another answer than none.
-misformed-is-not-formed : {refusal place : ℕ} → Misformed refusal place ≡ Formed → ⊥
-misformed-is-not-formed e = let z : _≡_ {A = ℕ} 0 1 = cc in omega arith
+use Rattle.words.proofs.Taken.{first-taken}
+use Rattle.meaning.proofs.Formed.{misformed-is-not-formed}
 
 -- The nodes below n pass: it remains to look from n on.
 pub record Looking (refusal : ℕ) (test : ℕ → Bool) (count n : ℕ) : Type 0 where

@@ -12,7 +12,7 @@ use lib.ListN.{length, getD, set, length-set}
 use lib.Seq.{getD-set-same, getD-set-other}
 use borrow.Author.Tests.{not-true, not-false, eq-eqb, ne-eqb, le-leb, lt-leb}
 use Rattle.words.specs.Choice.{pick, pick-case, pick-yes, pick-no}
-use Rattle.meaning.specs.Tree.{nodeAt}
+use Rattle.meaning.specs.Tree.{node-at}
 use Rattle.meaning.specs.Refusals.{uses-p, uses-q, uses-in, uses}
 use Rattle.meaning.specs.declared.Node.{Node}
 use Rattle.tree.specs.Uses.{use-if, use-operands, used-by, OperandsWithin, AllOperandsWithin}
@@ -101,15 +101,15 @@ length-use-operands used v = length-use-if (use-if used (uses-p v) (v .p)) (uses
 pub length-used-by : (t : List ℕ) (count : ℕ) (used : List ℕ) → length (used-by t count used) ≡ length used
 unfolding used-by
 length-used-by t zero used = refl
-length-used-by t (suc count) used = length-use-operands (used-by t count used) (nodeAt t count) ∙ length-used-by t count used
+length-used-by t (suc count) used = length-use-operands (used-by t count used) (node-at t count) ∙ length-used-by t count used
 
 -- The list holds each node's uses, up to 2, where it began with none.
-used-by-counts : (t : List ℕ) (used : List ℕ) (k count : ℕ) → ((n : ℕ) → n < count → OperandsWithin (length used) (nodeAt t n)) → getD used k 0 ≡ 0
+used-by-counts : (t : List ℕ) (used : List ℕ) (k count : ℕ) → ((n : ℕ) → n < count → OperandsWithin (length used) (node-at t n)) → getD used k 0 ≡ 0
     → getD (used-by t count used) k 0 ≡ up-to-2 (uses t k count)
 unfolding used-by uses
 used-by-counts t used k zero within none = none
 used-by-counts t used k (suc count) within none =
-    use-operands-counts (used-by t count used) (nodeAt t count) k (uses t k count) (rw (length-used-by t count used) (within count (omega arith)))
+    use-operands-counts (used-by t count used) (node-at t count) k (uses t k count) (rw (length-used-by t count used) (within count (omega arith)))
     (used-by-counts t used k count (λ n l. within n (omega arith)) none)
 
 -- So 2 can be decided from it.
@@ -141,7 +141,7 @@ pub using-begins : (t used : List ℕ) (count : ℕ) → UsingNodes t used used 
 unfolding used-by
 using-begins t used count = record { turn = omega arith; long = refl; holds = refl }
 
-module _ {t used₀ used : List ℕ} {count n : ℕ} {v : Node} (g : UsingNodes t used₀ used count n) (h : n < count) (w : v ≡ nodeAt t n) where
+module _ {t used₀ used : List ℕ} {count n : ℕ} {v : Node} (g : UsingNodes t used₀ used count n) (h : n < count) (w : v ≡ node-at t n) where
   pub using-on : {used′ : List ℕ} → used′ ≡ use-operands used v → UsingNodes t used₀ used′ count (n + 1)
   unfolding used-by
   using-on e = record {

@@ -6,17 +6,17 @@ use mathlib.Core.List.{List}
 use Prim.Native.Nat.{ℕ, _*_, _≤_}
 use lib.Dec.{eqb}
 use lib.ListN.{length, getD}
-use Rattle.meaning.specs.Tree.{nodeAt, nodes}
+use Rattle.meaning.specs.Tree.{node-at, nodes}
 use Rattle.meaning.specs.Refusals.{lowest-failing, formed-node, range-node}
 use Rattle.meaning.specs.declared.Table.the-variants.{Formed}
 
 -- 1, at node n of the table.
 abbrev pub formed-at : List ℕ → ℕ → Bool
-formed-at t n = formed-node n (nodeAt t n)
+formed-at t n = formed-node n (node-at t n)
 
 -- 3, at node n of the table.
 abbrev pub ranged-at : List ℕ → ℕ → Bool
-ranged-at t n = range-node (nodeAt t n)
+ranged-at t n = range-node (node-at t n)
 
 -- 2, of node k, from the list of all nodes' uses.
 abbrev pub counted-once : List ℕ → ℕ → Bool

@@ -7,7 +7,7 @@ use Prim.Native.Nat.{ℕ, zero, suc, _+_, _*_, _≤_, _<_}
 use lib.Dec.{leb}
 use lib.ListN.{length, getD, set}
 use Rattle.words.specs.Choice.{pick}
-use Rattle.meaning.specs.Tree.{nodeAt}
+use Rattle.meaning.specs.Tree.{node-at}
 use Rattle.meaning.specs.Refusals.{uses-p, uses-q}
 use Rattle.meaning.specs.declared.Node.{Node}
 
@@ -22,7 +22,7 @@ use-operands used v = use-if (use-if used (uses-p v) (v .p)) (uses-q v) (v .q)
 -- The uses that the nodes below count make.
 unfoldable pub used-by : List ℕ → ℕ → List ℕ → List ℕ
 used-by t zero used = used
-used-by t (suc count) used = use-operands (used-by t count used) (nodeAt t count)
+used-by t (suc count) used = use-operands (used-by t count used) (node-at t count)
 
 -- The operands of v have a place in a list of this size.
 pub record OperandsWithin (size : ℕ) (v : Node) : Type 0 where
@@ -33,4 +33,4 @@ pub record OperandsWithin (size : ℕ) (v : Node) : Type 0 where
 pub record AllOperandsWithin (size : ℕ) (t : List ℕ) (count : ℕ) : Type 0 where
   pub inside : count * 5 ≤ length t
   pub few : count ≤ 4096
-  pub each : (n : ℕ) → n < count → OperandsWithin size (nodeAt t n)
+  pub each : (n : ℕ) → n < count → OperandsWithin size (node-at t n)

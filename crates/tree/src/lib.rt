@@ -7,7 +7,7 @@ ghost use mathlib.Core.Bool.{true, false};
 ghost use Prim.Native.Nat.{_+_, _*_, _≤_, _<_};
 ghost use lib.ListN.{length};
 ghost use Rattle.words.specs.Choice.{pick};
-ghost use Rattle.meaning.specs.Tree.{nodeAt, below};
+ghost use Rattle.meaning.specs.Tree.{node-at, below};
 ghost use Rattle.meaning.specs.Refusals.{lowest-failing, formed-node, uses-p, uses-q, used-once, range-node, table};
 ghost use Rattle.meaning.specs.declared.Table.the-variants.{Formed};
 ghost use Rattle.tree.specs.Checks.{formed-at, ranged-at, counted-once, AllFormed};
@@ -16,7 +16,7 @@ ghost use Rattle.tree.specs.Uses.{use-if, use-operands, used-by, Operand
 // The five words of node n.
 pub fn read(t: &[u32], n: u32) -> meaning::Node
     requires { ⌜ (n * 5 + 5 ≤ length (now t)) × (n < 4096) ⌝ }
-    ensures { λ r. ⌜ r ≡ nodeAt (now (t .entry)) n ⌝ }
+    ensures { λ r. ⌜ r ≡ node-at (now (t .entry)) n ⌝ }
 {
     let i = n as usize * 5;
     meaning::Node {

@@ -1,5 +1,5 @@
 -- The words of a within have the sizes that are counted, from any register on.
-use mathlib.Core.Path.{_≡_, refl, sym, ap, ap₂, subst, _∙_}
+use mathlib.Core.Path.{_≡_, refl, sym, ap, ap₂, _∙_}
 use mathlib.Core.Bool.{Bool, true, false}
 use mathlib.Core.List.{List, [], _∷_, _++_}
 use Prim.Native.Nat.{ℕ, zero, suc, _+_, _-_, _<_, _≤_}
@@ -8,60 +8,45 @@ use native.Mathlib.Omega.{arith}
 use lib.Dec.{eqb}
 use lib.ListN.{length, length-append}
 use borrow.Author.Tests.{ne-eqb}
-use Rattle.words.specs.Choice.{pick, pick-true, pick-false}
+use Rattle.words.specs.Choice.{pick, pick-false}
 use Rattle.meaning.specs.Alternative.{SeqAlt, unguarded}
 use Rattle.meaning.specs.Listing.{word, expression-words, store-words}
 use Rattle.meaning.specs.Root.{window-len, synth-within}
 use Rattle.meaning.specs.declared.SeqStep.{SeqStep}
-use Rattle.expand.specs.ByNumber.{stepsWords}
-use Rattle.current.specs.Text.{Stored}
+use Rattle.term.specs.Steps.{steps-words}
 use Rattle.current.proofs.Bridge.{the-current-expression-is-the-text}
 use Rattle.pipeline.proofs.Bridge.{the-stores-are-the-words}
-use Rattle.sizes.specs.Sizes.{sizeAt}
+use Rattle.sizes.specs.Sizes.{delays-size, size-up-to-step}
 use Rattle.sizes.specs.declared.Size.{Size}
-use Rattle.sizes.proofs.Lengths.{the-text-has-its-size, the-stores-have-their-size}
-use Rattle.pipeline.specs.Stores.{delayStores}
+use Rattle.sizes.proofs.Lengths.{delays-length, the-text-has-its-size, the-stores-have-their-size}
 use Rattle.pair.specs.Pairs.{registers-in, stores-in, text-in, fits-in, further, delay-texts, pair-stores, pair-text, joining, taken-registers, taken-stores, taken-text}
 use Rattle.within.specs.AllPairs.{pairs-stores, pairs-texts, row-registers, row-stores, row-texts, all-stores, all-texts, or-zero, within-words}
-use Rattle.pair.specs.Sizes.{size, size-in, delays-size, pair-size, taken-size}
+use Rattle.pair.specs.Sizes.{size, size-in, pair-size, taken-size}
 use Rattle.within.specs.AllSizes.{plus, pairs-size, row-size, all-size, match-size, words-in}
-use Rattle.pair.proofs.Stored.{steps-behind}
+use Rattle.term.proofs.Round.{its-own-steps}
 use Rattle.pair.proofs.Delays.{length-ored}
-use Rattle.pair.proofs.Alternatives.{stored-from}
-use Rattle.pair.proofs.Pairs.{delays-long}
 use Rattle.within.proofs.PairByPair.{words-stay, the-stores-of-a-within, the-match-of-a-within}
 
 -- One alternative: its steps, put into words, tell its sizes for every register.
-stored-words : (ss : List SeqStep) → Stored (stepsWords ss) 0 ss
-stored-words ss =
-    subst (λ (l : List SeqStep). Stored (stepsWords ss) 0 l) (steps-behind [] 0 ss refl) (stored-from (stepsWords ss) 0 (length ss))
-
 text-at-any : (ss : List SeqStep) (n : ℕ) → length (text-in ss n) ≡ size-in ss .text
 unfolding text-in size-in
 text-at-any [] n = refl
 text-at-any (s ∷ ss) n = tells n ∙ sym (tells 0)
   where
-    tells : (k : ℕ) → length (text-in (s ∷ ss) k) ≡ sizeAt (stepsWords (s ∷ ss)) 0 (length ss) .text
+    tells : (k : ℕ) → length (text-in (s ∷ ss) k) ≡ size-up-to-step (steps-words (s ∷ ss)) 0 (length ss) .text
     tells k =
-        ap length (the-current-expression-is-the-text (stepsWords (s ∷ ss)) unguarded s ss k (stored-words (s ∷ ss)))
-        ∙ the-text-has-its-size (stepsWords (s ∷ ss)) [] (length ss) _
+        ap length (the-current-expression-is-the-text (steps-words (s ∷ ss)) unguarded s ss k (its-own-steps (s ∷ ss)))
+        ∙ the-text-has-its-size (steps-words (s ∷ ss)) [] (length ss) _
 
 stores-at-any : (ss : List SeqStep) (n : ℕ) → length (stores-in ss n) ≡ size-in ss .stores
 unfolding stores-in size-in
 stores-at-any [] n = refl
 stores-at-any (s ∷ ss) n = tells n ∙ sym (tells 0)
   where
-    tells : (k : ℕ) → length (stores-in (s ∷ ss) k) ≡ sizeAt (stepsWords (s ∷ ss)) 0 (length (s ∷ ss) - 1) .stores
+    tells : (k : ℕ) → length (stores-in (s ∷ ss) k) ≡ size-up-to-step (steps-words (s ∷ ss)) 0 (length (s ∷ ss) - 1) .stores
     tells k =
-        ap length (the-stores-are-the-words (stepsWords (s ∷ ss)) unguarded s ss k (stored-words (s ∷ ss)))
-        ∙ the-stores-have-their-size (stepsWords (s ∷ ss)) [] (length (s ∷ ss)) k
-
--- Delays.
-length-delay-stores : (n d : ℕ) (text : List ℕ) → length (delayStores [] n d text) ≡ delays-size d (length text)
-unfolding delayStores delays-size
-length-delay-stores n zero text = sym (pick-true _ _ refl)
-length-delay-stores n (suc d) text =
-    delays-long n (suc d) text (λ e. omega arith) ∙ sym (pick-false _ _ (ne-eqb (suc d) 0 (λ e. omega arith)))
+        ap length (the-stores-are-the-words (steps-words (s ∷ ss)) unguarded s ss k (its-own-steps (s ∷ ss)))
+        ∙ the-stores-have-their-size (steps-words (s ∷ ss)) [] (length (s ∷ ss)) k
 
 -- A pair that fits.
 length-pair-stores : (l two : ℕ) (s₁ : List SeqStep) (n : ℕ) → length (pair-stores l s₁ n) ≡ pair-size l two s₁ .stores
@@ -69,7 +54,7 @@ unfolding pair-stores pair-size
 length-pair-stores l two s₁ n =
     length-append (stores-in s₁ n) _
     ∙ ap₂ (λ (i j : ℕ). i + j) (stores-at-any s₁ n)
-    (length-delay-stores (n + registers-in s₁) (further l s₁) (text-in s₁ n) ∙ ap (delays-size (further l s₁)) (text-at-any s₁ n))
+    (delays-length [] (n + registers-in s₁) (further l s₁) (text-in s₁ n) ∙ ap (delays-size 0 (further l s₁)) (text-at-any s₁ n))
 
 length-pair-text : (l : ℕ) (match-2 : List ℕ) (s₁ : List SeqStep) (n : ℕ) → length (pair-text l match-2 s₁ n) + 1 ≡ pair-size l (length match-2) s₁ .text
 unfolding pair-text pair-size

@@ -10,20 +10,20 @@ use lib.Dec.{leb}
 use lib.ListN.{length, length-append}
 use borrow.Author.Tests.{ne-eqb}
 use Rattle.words.specs.Choice.{pick, pick-false}
-use Rattle.meaning.specs.Expression.{Expr, a·, r·, zero·, one·, any, not·, and·, or·, Synth}
+use Rattle.meaning.specs.Expression.{Expr, r·, or·, Synth}
 use Rattle.meaning.specs.Alternative.{SeqAlt}
 use Rattle.meaning.specs.Root.{Signals, window-len, slide, fitting-pair, pairs, all-pairs, or-all, one-of, synth-within}
 use Rattle.meaning.specs.Listing.{word, expression-words, store-words}
 use Rattle.meaning.specs.declared.SeqStep.{SeqStep}
-use Rattle.choice.proofs.Words.{store-words-append}
-use Rattle.pipeline.specs.Stores.{delayStores}
+use Rattle.meaning.proofs.Emitted.{some-words, store-words-append}
+use Rattle.pipeline.specs.Stores.{delay-store-words}
 use Rattle.pair.specs.Pairs.{alternative-synth, stores-in, text-in, fits-in, further, delay-texts, pair-registers, pair-stores, pair-text, joining, taken-registers, taken-stores, taken-text}
 use Rattle.within.specs.AllPairs.{pairs-stores, pairs-texts, row-registers, row-stores, row-texts, all-stores, all-texts, or-zero, within-words}
 use Rattle.within.proofs.RegisterSums.{registers-from-any-number, pair-count, pairs-count}
 
 -- The delays of a pair: their assignments, and their registers ORed to what is delayed.
-pub slide-stores : (n d : ℕ) (acc cur : Expr) → store-words n (slide n d acc cur .stores) ≡ delayStores [] n d (expression-words cur)
-unfolding delayStores
+pub slide-stores : (n d : ℕ) (acc cur : Expr) → store-words n (slide n d acc cur .stores) ≡ delay-store-words [] n d (expression-words cur)
+unfolding delay-store-words
 slide-stores n zero acc cur = refl
 slide-stores n (suc d) acc cur =
     ap (λ (l : List ℕ). expression-words cur ++ (word 9 n ∷ l)) (slide-stores (suc n) d (or· acc (r· n)) (r· n))
@@ -48,7 +48,7 @@ module _ (l : ℕ) (match-2 : Expr) (s₁ : List SeqStep) (n : ℕ) where
       store-words-append n (o .stores) (slide (n + length (o .stores)) d (o .cur) (o .cur) .stores)
       ∙ ap (λ (ws : List ℕ). store-words n (o .stores) ++ ws)
       (slide-stores (n + length (o .stores)) d (o .cur) (o .cur)
-      ∙ ap (λ (k : ℕ). delayStores [] (n + k) d (expression-words (o .cur))) (registers-from-any-number s₁ n))
+      ∙ ap (λ (k : ℕ). delay-store-words [] (n + k) d (expression-words (o .cur))) (registers-from-any-number s₁ n))
 
   pub the-text-of-a-pair : expression-words (fitting-pair l match-2 s₁ n .cur) ≡ pair-text l (expression-words match-2) s₁ n
   unfolding pair-text text-in further
@@ -150,17 +150,6 @@ the-texts-of-all-pairs before xs (y ∷ ys) n =
     ∙ ap₂ (λ (i j : ℕ). let w = pairs-texts before l (expression-words (o₂ .cur)) xs i in w ++ all-texts (before + length w) xs ys j)
     (ap (λ (i : ℕ). n + i) (registers-from-any-number (y .steps) n))
     (omega (arith, registers-from-any-number (y .steps) n, pairs-count l (o₂ .cur) xs k))
-
--- An expression has a word.
-some-words : (e : Expr) → 0 < length (expression-words e)
-some-words (a· a) = omega arith
-some-words (r· r) = omega arith
-some-words zero· = omega arith
-some-words one· = omega arith
-some-words (any e) = simp length-append (omega arith)
-some-words (not· e) = simp length-append (omega arith)
-some-words (and· x y) = simp length-append (omega arith)
-some-words (or· x y) = simp length-append (omega arith)
 
 -- Behind some words every pair is joined by an OR.
 joins : (before : ℕ) → 0 < before → joining before ≡ word 8 0 ∷ []

@@ -19,7 +19,8 @@ use Rattle.pair.specs.Stored.{steps-in}
 use Rattle.pair.specs.Pairs.{registers-in, fits-in, further, pair-registers, taken-registers}
 use Rattle.within.specs.AllPairs.{pairs-registers, row-registers, all-registers}
 use Rattle.within.specs.Rows.{Placed, Paired}
-use Rattle.within.proofs.Rows.{rest-of, part-steps, front-steps, seq1-node, seq2-node, seq2-placed}
+use Rattle.expand.proofs.Index.{rest-of}
+use Rattle.within.proofs.Rows.{part-steps, front-steps, seq1-node, seq2-node, seq2-placed}
 
 -- The hop of a first term is never used.
 pub taken-registers-rehop : (h : SeqHop) (l : ℕ) (ss : List SeqStep) → taken-registers l (rehop h ss) ≡ taken-registers l ss

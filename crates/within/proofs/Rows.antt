@@ -1,51 +1,38 @@
 -- One alternative of seq2 in the front of work, and one of seq1 behind it: there is room, and what stands there are its steps.
-use mathlib.Core.Path.{_≡_, refl, sym, ap, _∙_}
+use mathlib.Core.Path.{_≡_, sym, ap, _∙_}
 use mathlib.Core.List.{List, [], _∷_, _++_, append-assoc}
 use Prim.Native.Nat.{ℕ, zero, suc, _+_, _*_, _-_, _<_, _≤_}
 use native.Mathlib.Nat.{sub-zero}
-use native.Mathlib.Numerals.{add-one}
 use native.Mathlib.Omega.{arith}
 use lib.ListN.{length, take, drop}
-use lib.Seq.{drop-cons, take-at, drop-at, length-take-le}
+use lib.Seq.{take-at, length-take-le}
 use Rattle.words.specs.Written.{Wrote}
-use Rattle.words.proofs.Laws.{spliced}
-use Rattle.meaning.specs.Tree.{treeAt}
-use Rattle.meaning.specs.Alternative.{SeqAlt, single, rehop}
+use Rattle.words.proofs.Laws.{still-long, spliced, written-part}
+use Rattle.meaning.specs.Tree.{tree-at}
+use Rattle.meaning.specs.Alternative.{SeqAlt, rehop}
 use Rattle.meaning.specs.Refusals.{entries, room-of}
-use Rattle.meaning.specs.declared.SeqTerm.{SeqTerm}
-use Rattle.meaning.specs.declared.SeqTerm.the-variants.{Bool as BoolTerm, Goto, Nonconsec, ConsecAtLeast, Empty}
 use Rattle.meaning.specs.declared.SeqHop.{SeqHop}
 use Rattle.meaning.specs.declared.SeqHop.the-variants.{Fixed}
 use Rattle.meaning.specs.declared.SeqStep.{SeqStep}
+use Rattle.meaning.proofs.Counting.{length-rehop}
 use Rattle.meaning.proofs.Ranges.{a-formed-tree-is-ranged}
-use Rattle.term.specs.Steps.{termAtom}
+use Rattle.meaning.proofs.Walks.{room-is-small}
 use Rattle.expand.specs.ByNumber.{alternatives-of, nth, alternative-words, Expandable, Numbered}
 use Rattle.expand.proofs.Every.{has-step, each-expanded, each-nth}
-use Rattle.choice.proofs.SmallAtoms.{SmallTerm, SmallSteps, SmallAlternatives, small-alternatives}
-use Rattle.choice.proofs.Holding.{room-is-small}
+use Rattle.choice.proofs.SmallAtoms.{small-atom, SmallSteps, SmallAlternatives, small-alternatives}
 use Rattle.choice.proofs.Keeping.{room-in-work}
 use Rattle.pair.specs.Stored.{steps-in, SmallAtoms, Kept}
-use Rattle.pair.proofs.Stored.{length-steps, steps-read-back, kept-steps}
-use Rattle.pair.proofs.Pairs.{still-long}
+use Rattle.term.proofs.Round.{length-of-steps}
+use Rattle.expand.proofs.Room.{size-within-entries}
+use Rattle.pair.proofs.Stored.{steps-read-back, kept-steps}
 use Rattle.within.specs.Rows.{Placed, Paired}
 
 -- The hop of a first term is never used.
-length-rehop : (h : SeqHop) (ss : List SeqStep) → length (rehop h ss) ≡ length ss
-length-rehop h [] = refl
-length-rehop h (s ∷ ss) = refl
-
 small-rehop : (h : SeqHop) (ss : List SeqStep) → SmallAtoms ss → SmallAtoms (rehop h ss)
 small-rehop h [] small = small
 small-rehop h (s ∷ ss) small = small
 
 -- The atoms of one of the alternatives of a formed table's node.
-small-atom : (x : SeqTerm) → SmallTerm x → termAtom x < 65536
-small-atom (BoolTerm a) small = small
-small-atom (Goto b k) small = small
-small-atom (Nonconsec b k) small = small
-small-atom (ConsecAtLeast b k) small = small
-small-atom Empty small = omega arith
-
 small-atoms : (ss : List SeqStep) → SmallSteps ss → SmallAtoms ss
 small-atoms [] small = tt
 small-atoms (s ∷ ss) small = (small-atom (s .term) (small .0), small-atoms ss (small .1))
@@ -59,14 +46,7 @@ small-nth (y ∷ ys) (suc i) h small = small-nth ys i (omega arith) (small .1)
 small-in-node : {t : List ℕ} {n i : ℕ} → Expandable t n → i < length (alternatives-of t n) → SmallAtoms (nth (alternatives-of t n) i .steps)
 unfolding alternatives-of
 small-in-node {t} {n} {i} E h =
-    small-nth (alternatives-of t n) i h (small-alternatives (treeAt t n) (a-formed-tree-is-ranged t (E .formed) n (E .inside)))
-
--- No alternative has more steps than all of them have entries.
-steps-among-entries : (alts : List SeqAlt) (i : ℕ) → i < length alts → length (nth alts i .steps) ≤ entries alts
-unfolding nth
-steps-among-entries [] i h = absurd (omega arith)
-steps-among-entries (y ∷ ys) zero h = omega arith
-steps-among-entries (y ∷ ys) (suc i) h = omega (arith, steps-among-entries ys i (omega arith))
+    small-nth (alternatives-of t n) i h (small-alternatives (tree-at t n) (a-formed-tree-is-ranged t (E .formed) n (E .inside)))
 
 -- What was put into a slice stands there, and what stood before it still does.
 module _ {o o′ : List ℕ} {at end : ℕ} {ws : List ℕ} (w : Wrote o o′ at end ws) (room : at + length ws ≤ length o) where
@@ -79,7 +59,7 @@ module _ {o o′ : List ℕ} {at end : ℕ} {ws : List ℕ} (w : Wrote o o′ at
   part-written : take (end - at) (drop at o′) ≡ ws
   part-written =
       let e : end - at ≡ length ws = omega (arith, w .ends) in
-      rw (parts-are, e, drop-at (take at o) (ws ++ drop (at + length ws) o) at front-long) (take-at ws (drop (at + length ws) o) (length ws) refl)
+      rw (w .holds, e) (written-part o at ws room)
 
   pub front-kept : take at o′ ≡ take at o
   front-kept = rw parts-are (take-at (take at o) (ws ++ drop (at + length ws) o) at front-long)
@@ -93,15 +73,15 @@ module _ {t : List ℕ} {n place work i : ℕ} (P : Placed t n place work) (h : 
   words = alternative-words (Fixed 0) (alternatives-of t n) i
 
   few-steps : length (rehop (Fixed 0) steps) ≤ entries (alternatives-of t n)
-  few-steps = omega (arith, length-rehop (Fixed 0) steps, steps-among-entries (alternatives-of t n) i h)
+  few-steps = omega (arith, length-rehop (Fixed 0) steps, size-within-entries (alternatives-of t n) i h)
 
   some-step : 1 ≤ length (rehop (Fixed 0) steps)
   unfolding alternatives-of
-  some-step = omega (arith, length-rehop (Fixed 0) steps, each-nth has-step (alternatives-of t n) i (each-expanded has-step (treeAt t n)))
+  some-step = omega (arith, length-rehop (Fixed 0) steps, each-nth has-step (alternatives-of t n) i (each-expanded has-step (tree-at t n)))
 
-  words-long : length words ≡ length (rehop (Fixed 0) steps) * 5
+  words-long : length words ≡ 5 * length (rehop (Fixed 0) steps)
   unfolding alternative-words
-  words-long = length-steps (rehop (Fixed 0) steps)
+  words-long = length-of-steps (rehop (Fixed 0) steps)
 
   words-kept : Kept words
   unfolding alternative-words
@@ -174,8 +154,3 @@ seq1-placed P h w = record {
 
 pub still-paired : {t : List ℕ} {n₁ n₂ work work′ : ℕ} → Paired t n₁ n₂ work → work′ ≡ work → Paired t n₁ n₂ work′
 still-paired P e = rw e P
-
--- The alternatives that are left, the next one in front.
-pub rest-of : (alts : List SeqAlt) (i : ℕ) → i < length alts → drop i alts ≡ nth alts i ∷ drop (i + 1) alts
-unfolding nth
-rest-of alts i h = rw (add-one i) (drop-cons alts i (single Empty) h)

@@ -22,7 +22,8 @@ use Rattle.within.specs.AllPairs.{pairs-registers, row-registers, all-re
 use Rattle.pair.specs.Sizes.{size, size-in, pair-size, taken-size}
 use Rattle.within.specs.AllSizes.{plus, pairs-size, row-size, all-size, match-size, words-in}
 use Rattle.within.specs.Rows.{Placed, Paired}
-use Rattle.within.proofs.Rows.{rest-of, part-steps, front-steps, seq1-node, seq2-node, seq2-placed}
+use Rattle.expand.proofs.Index.{rest-of}
+use Rattle.within.proofs.Rows.{part-steps, front-steps, seq1-node, seq2-node, seq2-placed}
 use Rattle.within.proofs.RegisterPass.{window-rehop}
 use Rattle.within.proofs.StorePass.{part-registers, row-registers-are}
 

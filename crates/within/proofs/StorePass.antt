@@ -7,7 +7,7 @@ use mir.Val.{Fits}
 use mir.Syntax.{w32}
 use lib.ListN.{length, take, drop, length-append, drop-of-length-le}
 use Rattle.words.specs.Written.{Wrote}
-use Rattle.words.proofs.Laws.{Going, begin, go, last, done, same-words}
+use Rattle.words.proofs.Laws.{still-long, Going, begin, go, last, done, same-words}
 use Rattle.meaning.specs.Alternative.{SeqAlt, rehop}
 use Rattle.meaning.specs.Root.{window-len}
 use Rattle.meaning.specs.declared.SeqHop.{SeqHop}
@@ -20,8 +20,8 @@ use Rattle.within.specs.AllPairs.{pairs-registers, pairs-stores, row-reg
 use Rattle.choice.specs.Passes.{Marked}
 use Rattle.within.specs.Rows.{Placed, Paired}
 use Rattle.choice.specs.declared.Mark.{Mark}
-use Rattle.pair.proofs.Pairs.{still-long}
-use Rattle.within.proofs.Rows.{rest-of, part-steps, front-steps, seq2-placed}
+use Rattle.expand.proofs.Index.{rest-of}
+use Rattle.within.proofs.Rows.{part-steps, front-steps, seq2-placed}
 use Rattle.within.proofs.RegisterPass.{taken-registers-rehop, registers-rehop, window-rehop}
 
 -- The hop of a first term is never used.

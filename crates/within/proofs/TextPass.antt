@@ -10,7 +10,7 @@ use lib.ListN.{length, take, drop, length-append, drop-of-length-le}
 use borrow.Author.Tests.{eq-eqb, eqb-true}
 use Rattle.words.specs.Choice.{pick-true, pick-case}
 use Rattle.words.specs.Written.{Wrote}
-use Rattle.words.proofs.Laws.{Going, begin, go, last, done, same-words}
+use Rattle.words.proofs.Laws.{still-long, Going, begin, go, last, done, same-words}
 use Rattle.meaning.specs.Alternative.{SeqAlt, rehop}
 use Rattle.meaning.specs.Listing.{word}
 use Rattle.meaning.specs.Root.{window-len}
@@ -24,9 +24,9 @@ use Rattle.within.specs.AllPairs.{pairs-registers, pairs-texts, row-regi
 use Rattle.choice.specs.Passes.{Marked}
 use Rattle.within.specs.Rows.{Placed, Paired}
 use Rattle.choice.specs.declared.Mark.{Mark}
-use Rattle.pair.proofs.Pairs.{still-long}
 use Rattle.within.proofs.PairByPair.{words-stay}
-use Rattle.within.proofs.Rows.{rest-of, placed-room, part-steps, front-kept, front-steps, seq2-placed}
+use Rattle.expand.proofs.Index.{rest-of}
+use Rattle.within.proofs.Rows.{placed-room, part-steps, front-kept, front-steps, seq2-placed}
 use Rattle.within.proofs.RegisterPass.{registers-rehop, window-rehop}
 use Rattle.within.proofs.StorePass.{part-registers, row-registers-are}
 

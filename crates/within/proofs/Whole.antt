@@ -5,10 +5,9 @@ use Prim.Native.Nat.{ℕ, _+_, _<_, _≤_}
 use native.Mathlib.Omega.{arith}
 use lib.ListN.{length, length-append}
 use Rattle.words.specs.Written.{Wrote}
-use Rattle.words.proofs.Laws.{begin, go, last, same-words}
+use Rattle.words.proofs.Laws.{still-long, begin, go, last, same-words}
 use Rattle.meaning.specs.Alternative.{SeqAlt}
 use Rattle.meaning.specs.Listing.{word}
-use Rattle.pair.proofs.Pairs.{still-long}
 use Rattle.within.specs.AllPairs.{all-stores, all-texts, or-zero, within-words}
 use Rattle.within.proofs.PairByPair.{the-listing-of-a-within}
 

@@ -2,7 +2,7 @@
 -- Example: for `(a ##1 b) within (c ##1 d ##1 e)` the fifteen words of seq2's steps stand in front, the ten of seq1's behind.
 use Prim.Native.Nat.{ℕ, _+_, _*_, _≤_, _<_}
 use mathlib.Core.List.{List}
-use Rattle.meaning.specs.Tree.{treeAt, nodes}
+use Rattle.meaning.specs.Tree.{tree-at, nodes}
 use Rattle.meaning.specs.Refusals.{entries, room-of}
 use Rattle.meaning.specs.Lowerable.{FormedTable, Walkable, Pairable}
 use Rattle.expand.specs.ByNumber.{alternatives-of, Expandable}
@@ -12,8 +12,8 @@ pub record Paired (t : List ℕ) (n₁ n₂ work : ℕ) : Type 0 where
   pub formed : FormedTable t
   pub one-inside : n₁ < nodes t
   pub two-inside : n₂ < nodes t
-  pub one : Walkable (room-of work) (treeAt t n₁)
-  pub two : Walkable (room-of work) (treeAt t n₂)
+  pub one : Walkable (room-of work) (tree-at t n₁)
+  pub two : Walkable (room-of work) (tree-at t n₂)
   pub pairs : Pairable (room-of work) (alternatives-of t n₁) (alternatives-of t n₂)
 
 -- Each alternative of node n can stand in so many words of work, from the place on.

@@ -1,40 +1,30 @@
+-- `close` puts nothing, `any`, or `any or`, by how many texts there are and which it is.
 use Rattle.choice.proofs.Laws.{alone-closed, room-for-any, leading-closed, room-for-or, following-closed}
 use borrow.Author.Needs.{needs}
 use Rattle.choice.proofs.close.Statement.{statement}
 use Rattle.choice.proofs.close.Tie as tie
-use Rattle.choice.proofs.close.Reads as reads
-use Rattle.choice.proofs.close.Lts as lts
-use Rattle.words.proofs.put.Reads as put-reads
 
--- src/lib.rt:112:9
 returns : tie.Need-returns
 returns c = search alone-closed
 
--- src/lib.rt:115:9
 put-requires : tie.Need-put-requires
 put-requires c κs = search room-for-any
 
--- src/lib.rt:115:9
 same-length : tie.Need-same-length
 same-length c = search needs
 
--- src/lib.rt:115:9
 returns-2 : tie.Need-returns-2
 returns-2 c = search leading-closed
 
--- src/lib.rt:117:9
 put-requires-2 : tie.Need-put-requires-2
 put-requires-2 c κs = search room-for-any
 
--- src/lib.rt:118:5
 put-requires-3 : tie.Need-put-requires-3
 put-requires-3 c κs = search room-for-or
 
--- src/lib.rt:107:1
 same-length-2 : tie.Need-same-length-2
 same-length-2 c = search needs
 
--- src/lib.rt:107:1
 returns-3 : tie.Need-returns-3
 returns-3 c = search following-closed
 

@@ -1,19 +1,15 @@
+-- `closing_length` counts what `close` puts, by the same two tests.
 use borrow.Author.Needs.{needs}
 use Rattle.choice.proofs.Laws.{alone-length, leading-length, following-length}
 use Rattle.choice.proofs.closing_length.Statement.{statement}
 use Rattle.choice.proofs.closing_length.Tie as tie
-use Rattle.choice.proofs.closing_length.Reads as reads
-use Rattle.choice.proofs.closing_length.Lts as lts
 
--- src/lib.rt:98:9
 returns : tie.Need-returns
 returns c = (search alone-length, search needs)
 
--- src/lib.rt:101:9
 returns-2 : tie.Need-returns-2
 returns-2 c = (search leading-length, search needs)
 
--- src/lib.rt:93:1
 returns-3 : tie.Need-returns-3
 returns-3 c = (search following-length, search needs)
 

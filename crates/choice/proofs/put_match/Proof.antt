@@ -1,12 +1,9 @@
+-- `put_match` puts the texts one by one; what is left of them is said in `Joining`.
 use borrow.Author.Needs.{needs}
 use Prim.Native.Nat.{_-_}
 use Rattle.choice.proofs.Laws.{chosen-below, registers-fit, Joining, joining-begins, texts-fit, joining-on, match-fits, joining-ends, pass-ends-with}
 use Rattle.choice.proofs.put_match.Statement.{statement}
 use Rattle.choice.proofs.put_match.Tie as tie
-use Rattle.choice.proofs.put_match.Reads as reads
-use Rattle.choice.proofs.put_match.Lts as lts
-use Rattle.choice.proofs.joined_text_of.Reads as joined-text-of-reads
-use Rattle.words.proofs.put.Reads as put-reads
 
 abbrev Inv-loop : tie.InvT-loop
 Inv-loop t n count first work₀ out₀ at p₀ x₀ i₀ work out p x i = Joining t n count first work₀ out₀ at work out p x i
@@ -14,39 +11,30 @@ Inv-loop t n count first work₀ out₀ at p₀ x₀ i₀ work out p x i = Joini
 abbrev μ-loop : tie.MeasureT-loop
 μ-loop t n count first work₀ out₀ at p₀ x₀ i₀ work out p x i = count - i
 
--- src/lib.rt:199:5
 loop-holds : tie.Need-loop-holds Inv-loop μ-loop
 loop-holds c = search joining-begins
 
--- src/lib.rt:200:13
 joined-text-of-requires : tie.Need-joined-text-of-requires Inv-loop μ-loop
 joined-text-of-requires c κs = (search chosen-below, search registers-fit, search texts-fit)
 
--- src/lib.rt:203:9
 add-i : tie.Need-add-i Inv-loop μ-loop
 add-i c = search needs
 
--- src/lib.rt:199:5
 loop-less : tie.Need-loop-less Inv-loop μ-loop
 loop-less c = search needs
 
--- src/lib.rt:199:5
 loop-again : tie.Need-loop-again Inv-loop μ-loop
 loop-again c = search joining-on
 
--- src/lib.rt:205:5
 put-requires : tie.Need-put-requires Inv-loop μ-loop
 put-requires c κs = search match-fits
 
--- src/lib.rt:191:1
 same-length : tie.Need-same-length Inv-loop μ-loop
 same-length c = search needs
 
--- src/lib.rt:191:1
 same-length-2 : tie.Need-same-length-2 Inv-loop μ-loop
 same-length-2 c = search needs
 
--- src/lib.rt:191:1
 returns : tie.Need-returns Inv-loop μ-loop
 returns c = (search joining-ends, search pass-ends-with)
 

@@ -1,11 +1,9 @@
+-- `put_stores` puts the assignments alternative by alternative; what is left of them is said in `Storing`.
 use borrow.Author.Needs.{needs}
 use Prim.Native.Nat.{_-_}
 use Rattle.choice.proofs.Laws.{chosen-below, registers-fit, Storing, storing-begins, stores-fit, storing-on, storing-ends, pass-ends-with}
 use Rattle.choice.proofs.put_stores.Statement.{statement}
 use Rattle.choice.proofs.put_stores.Tie as tie
-use Rattle.choice.proofs.put_stores.Reads as reads
-use Rattle.choice.proofs.put_stores.Lts as lts
-use Rattle.choice.proofs.stores_of.Reads as stores-of-reads
 
 abbrev Inv-loop : tie.InvT-loop
 Inv-loop t n count first work₀ out₀ at p₀ x₀ i₀ work out p x i = Storing t n first work₀ out₀ at work out p x i
@@ -13,35 +11,27 @@ Inv-loop t n count first work₀ out₀ at p₀ x₀ i₀ work out p x i = Stori
 abbrev μ-loop : tie.MeasureT-loop
 μ-loop t n count first work₀ out₀ at p₀ x₀ i₀ work out p x i = count - i
 
--- src/lib.rt:181:5
 loop-holds : tie.Need-loop-holds Inv-loop μ-loop
 loop-holds c = search storing-begins
 
--- src/lib.rt:182:13
 stores-of-requires : tie.Need-stores-of-requires Inv-loop μ-loop
 stores-of-requires c κs = (search chosen-below, search registers-fit, search stores-fit)
 
--- src/lib.rt:185:9
 add-i : tie.Need-add-i Inv-loop μ-loop
 add-i c = search needs
 
--- src/lib.rt:181:5
 loop-less : tie.Need-loop-less Inv-loop μ-loop
 loop-less c = search needs
 
--- src/lib.rt:181:5
 loop-again : tie.Need-loop-again Inv-loop μ-loop
 loop-again c = search storing-on
 
--- src/lib.rt:173:1
 same-length : tie.Need-same-length Inv-loop μ-loop
 same-length c = search needs
 
--- src/lib.rt:173:1
 same-length-2 : tie.Need-same-length-2 Inv-loop μ-loop
 same-length-2 c = search needs
 
--- src/lib.rt:173:1
 returns : tie.Need-returns Inv-loop μ-loop
 returns c = (search storing-ends, search pass-ends-with)
 

@@ -1,27 +1,21 @@
+-- `root_size` counts what `root_text` puts.
 use Rattle.choice.proofs.RootTexts.{bare-size, other-size}
 use borrow.Author.Needs.{needs}
 use Rattle.choice.proofs.root_size.Statement.{statement}
 use Rattle.choice.proofs.root_size.Tie as tie
-use Rattle.choice.proofs.root_size.Reads as reads
-use Rattle.choice.proofs.root_size.Lts as lts
-use Rattle.choice.proofs.lone_at.Reads as lone-at-reads
 
--- src/lib.rt:97:9
 lone-at-requires : tie.Need-lone-at-requires
 lone-at-requires c κs = search needs
 
 enum-told : tie.Need-enum-told
 enum-told c = search needs
 
--- src/lib.rt:99:9
 enum-told-2 : tie.Need-enum-told-2
 enum-told-2 c = search needs
 
--- src/lib.rt:99:9
 returns : tie.Need-returns
 returns c = search other-size
 
--- src/lib.rt:93:1
 returns-2 : tie.Need-returns-2
 returns-2 c = search bare-size
 

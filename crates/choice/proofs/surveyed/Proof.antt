@@ -1,11 +1,9 @@
+-- `surveyed` goes through the alternatives up to one that 12 refuses; what is left of them is said in `Surveying`.
 use borrow.Author.Needs.{needs}
 use Prim.Native.Nat.{_-_}
-use Rattle.choice.proofs.Laws.{few-alternatives, chosen-below, Surveying, surveying-begins, survey-stops, survey-stops-with, surveying-on, survey-ends, survey-ends-with}
+use Rattle.choice.proofs.Laws.{chosen-below, Surveying, surveying-begins, survey-stops, survey-stops-with, surveying-on, survey-ends, survey-ends-with}
 use Rattle.choice.proofs.surveyed.Statement.{statement}
 use Rattle.choice.proofs.surveyed.Tie as tie
-use Rattle.choice.proofs.surveyed.Reads as reads
-use Rattle.choice.proofs.surveyed.Lts as lts
-use Rattle.choice.proofs.look_at.Reads as look-at-reads
 
 abbrev Inv-loop : tie.InvT-loop
 Inv-loop t n count work₀ total₀ i₀ work total i = Surveying t n work₀ work total i
@@ -13,45 +11,35 @@ Inv-loop t n count work₀ total₀ i₀ work total i = Surveying t n work₀ wo
 abbrev μ-loop : tie.MeasureT-loop
 μ-loop t n count work₀ total₀ i₀ work total i = count - i
 
--- src/lib.rt:83:5
 loop-holds : tie.Need-loop-holds Inv-loop μ-loop
 loop-holds c = search surveying-begins
 
--- src/lib.rt:84:13
 look-at-requires : tie.Need-look-at-requires Inv-loop μ-loop
 look-at-requires c κs = search chosen-below
 
--- src/lib.rt:86:13
 same-length : tie.Need-same-length Inv-loop μ-loop
 same-length c = search needs
 
--- src/lib.rt:86:13
 returns : tie.Need-returns Inv-loop μ-loop
 returns c =
     let loop = c .before .before .before .before .before .before .before in
     (survey-stops (loop .before .before .before .pre) (loop .loop .inv) (c .before .before .before .before .before .before .loop-test .taken) (c .before .before .before .before .look-at .ensures .0) (c .if1 .taken), search survey-stops-with)
 
--- src/lib.rt:88:9
 add-total : tie.Need-add-total Inv-loop μ-loop
 add-total c = search needs
 
--- src/lib.rt:89:9
 add-i : tie.Need-add-i Inv-loop μ-loop
 add-i c = search needs
 
--- src/lib.rt:83:5
 loop-less : tie.Need-loop-less Inv-loop μ-loop
 loop-less c = search needs
 
--- src/lib.rt:83:5
 loop-again : tie.Need-loop-again Inv-loop μ-loop
 loop-again c = search surveying-on
 
--- src/lib.rt:76:1
 same-length-2 : tie.Need-same-length-2 Inv-loop μ-loop
 same-length-2 c = search needs
 
--- src/lib.rt:76:1
 returns-2 : tie.Need-returns-2 Inv-loop μ-loop
 returns-2 c = (search survey-ends, search survey-ends-with)
 

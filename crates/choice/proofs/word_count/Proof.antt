@@ -1,12 +1,9 @@
+-- `word_count` adds the words alternative by alternative; what is left of them is said in `Sizing`.
 use borrow.Author.Needs.{needs}
 use Prim.Native.Nat.{_-_}
 use Rattle.choice.proofs.Laws.{chosen-below, registers-fit, Sizing, sizing-begins, sizing-on, sizing-ends, pass-ends-with}
 use Rattle.choice.proofs.word_count.Statement.{statement}
 use Rattle.choice.proofs.word_count.Tie as tie
-use Rattle.choice.proofs.word_count.Reads as reads
-use Rattle.choice.proofs.word_count.Lts as lts
-use Rattle.choice.proofs.closing_length.Reads as closing-length-reads
-use Rattle.choice.proofs.size_of.Reads as size-of-reads
 
 abbrev Inv-loop : tie.InvT-loop
 Inv-loop t n count first work₀ total₀ x₀ i₀ work total x i = Sizing t n count first work₀ work total x i
@@ -14,43 +11,33 @@ Inv-loop t n count first work₀ total₀ x₀ i₀ work total x i = Sizing t n 
 abbrev μ-loop : tie.MeasureT-loop
 μ-loop t n count first work₀ total₀ x₀ i₀ work total x i = count - i
 
--- src/lib.rt:163:5
 loop-holds : tie.Need-loop-holds Inv-loop μ-loop
 loop-holds c = search sizing-begins
 
--- src/lib.rt:164:13
 size-of-requires : tie.Need-size-of-requires Inv-loop μ-loop
 size-of-requires c κs = (search chosen-below, search registers-fit)
 
--- src/lib.rt:165:28
 closing-length-requires : tie.Need-closing-length-requires Inv-loop μ-loop
 closing-length-requires c κs = search needs
 
--- src/lib.rt:165:18
 add-total : tie.Need-add-total Inv-loop μ-loop
 add-total c = search needs
 
--- src/lib.rt:165:9
 add-total-2 : tie.Need-add-total-2 Inv-loop μ-loop
 add-total-2 c = search needs
 
--- src/lib.rt:167:9
 add-i : tie.Need-add-i Inv-loop μ-loop
 add-i c = search needs
 
--- src/lib.rt:163:5
 loop-less : tie.Need-loop-less Inv-loop μ-loop
 loop-less c = search needs
 
--- src/lib.rt:163:5
 loop-again : tie.Need-loop-again Inv-loop μ-loop
 loop-again c = search sizing-on
 
--- src/lib.rt:155:1
 same-length : tie.Need-same-length Inv-loop μ-loop
 same-length c = search needs
 
--- src/lib.rt:155:1
 returns : tie.Need-returns Inv-loop μ-loop
 returns c = (search sizing-ends, search pass-ends-with)
 

@@ -29,127 +29,96 @@ walked-below t = and 1 walked-kinds.ps (falls 1 walked-kinds.ps _<_ μ-walked t)
 abbrev callees : ℕ → walked-lts.Claims
 callees t = (read-reads.Asked, read-reads.Learnt, walked-below t, walked.Post, delayed-reads.Asked, delayed-reads.Learnt, covered-reads.Asked, covered-reads.Learnt, is-repeated-reads.Asked, is-repeated-reads.Learnt, repeated-reads.Asked, repeated-reads.Learnt, unvisited-reads.Asked, unvisited-reads.Learnt)
 
--- src/lib.rt:292:9
 walked-returns : (t : ℕ) → walked-lts.Need-returns (callees t) (walked-at t) walked.Post
 walked-returns t c = search too-deep
 
--- src/lib.rt:294:9
 walked-read-requires : (t : ℕ) → walked-lts.Need-read-requires (callees t) (walked-at t) walked.Post
 walked-read-requires t c κs = (search node-inside, search node-few)
 
--- src/lib.rt:296:41
 walked-add-walked : (t : ℕ) → walked-lts.Need-add-walked (callees t) (walked-at t) walked.Post
 walked-add-walked t c = search needs
 
--- src/lib.rt:296:13
 walked-walked-requires : (t : ℕ) → walked-lts.Need-walked-requires (callees t) (walked-at t) walked.Post
 walked-walked-requires t c κs = (search operand-lower, search operand-countable)
 
--- src/lib.rt:297:38
 walked-enum-known-left : (t : ℕ) → walked-lts.Need-enum-known-left (callees t) (walked-at t) walked.Post
 walked-enum-known-left t c = search needs
 
--- src/lib.rt:298:13
 walked-enum-told : (t : ℕ) → walked-lts.Need-enum-told (callees t) (walked-at t) walked.Post
 walked-enum-told t c = search needs
 
--- src/lib.rt:298:13
 walked-returns-2 : (t : ℕ) → walked-lts.Need-returns-2 (callees t) (walked-at t) walked.Post
 walked-returns-2 t c = search left-refused
 
--- src/lib.rt:300:42
 walked-add-walked-2 : (t : ℕ) → walked-lts.Need-add-walked-2 (callees t) (walked-at t) walked.Post
 walked-add-walked-2 t c = search needs
 
--- src/lib.rt:300:13
 walked-walked-requires-2 : (t : ℕ) → walked-lts.Need-walked-requires-2 (callees t) (walked-at t) walked.Post
 walked-walked-requires-2 t c κs = (search operand-lower, search operand-countable)
 
--- src/lib.rt:301:38
 walked-enum-known-right : (t : ℕ) → walked-lts.Need-enum-known-right (callees t) (walked-at t) walked.Post
 walked-enum-known-right t c = search needs
 
--- src/lib.rt:302:13
 walked-enum-told-2 : (t : ℕ) → walked-lts.Need-enum-told-2 (callees t) (walked-at t) walked.Post
 walked-enum-told-2 t c = search needs
 
--- src/lib.rt:302:13
 walked-returns-3 : (t : ℕ) → walked-lts.Need-returns-3 (callees t) (walked-at t) walked.Post
 walked-returns-3 t c = search right-refused
 
--- src/lib.rt:304:9
 walked-delayed-requires : (t : ℕ) → walked-lts.Need-delayed-requires (callees t) (walked-at t) walked.Post
 walked-delayed-requires t c κs = (search delay-ranged, search answer-is-small, search answer-is-small)
 
--- src/lib.rt:304:9
 walked-returns-4 : (t : ℕ) → walked-lts.Need-returns-4 (callees t) (walked-at t) walked.Post
 walked-returns-4 t c = search delay-done
 
--- src/lib.rt:307:42
 walked-add-walked-3 : (t : ℕ) → walked-lts.Need-add-walked-3 (callees t) (walked-at t) walked.Post
 walked-add-walked-3 t c = search needs
 
--- src/lib.rt:307:13
 walked-walked-requires-3 : (t : ℕ) → walked-lts.Need-walked-requires-3 (callees t) (walked-at t) walked.Post
 walked-walked-requires-3 t c κs = (search operand-lower, search operand-countable)
 
--- src/lib.rt:308:38
 walked-enum-known-under : (t : ℕ) → walked-lts.Need-enum-known-under (callees t) (walked-at t) walked.Post
 walked-enum-known-under t c = search needs
 
--- src/lib.rt:309:13
 walked-enum-told-3 : (t : ℕ) → walked-lts.Need-enum-told-3 (callees t) (walked-at t) walked.Post
 walked-enum-told-3 t c = search needs
 
--- src/lib.rt:309:13
 walked-returns-5 : (t : ℕ) → walked-lts.Need-returns-5 (callees t) (walked-at t) walked.Post
 walked-returns-5 t c = search covered-operand-refused
 
--- src/lib.rt:311:9
 walked-covered-requires : (t : ℕ) → walked-lts.Need-covered-requires (callees t) (walked-at t) walked.Post
 walked-covered-requires t c κs = search answer-is-small
 
--- src/lib.rt:311:9
 walked-returns-6 : (t : ℕ) → walked-lts.Need-returns-6 (callees t) (walked-at t) walked.Post
 walked-returns-6 t c = search covered-done
 
--- src/lib.rt:313:8
 walked-is-repeated-requires : (t : ℕ) → walked-lts.Need-is-repeated-requires (callees t) (walked-at t) walked.Post
 walked-is-repeated-requires t c κs = search needs
 
--- src/lib.rt:314:42
 walked-add-walked-4 : (t : ℕ) → walked-lts.Need-add-walked-4 (callees t) (walked-at t) walked.Post
 walked-add-walked-4 t c = search needs
 
--- src/lib.rt:314:13
 walked-walked-requires-4 : (t : ℕ) → walked-lts.Need-walked-requires-4 (callees t) (walked-at t) walked.Post
 walked-walked-requires-4 t c κs = (search operand-lower, search operand-countable)
 
--- src/lib.rt:315:38
 walked-enum-known-under-2 : (t : ℕ) → walked-lts.Need-enum-known-under-2 (callees t) (walked-at t) walked.Post
 walked-enum-known-under-2 t c = search needs
 
--- src/lib.rt:316:13
 walked-enum-told-4 : (t : ℕ) → walked-lts.Need-enum-told-4 (callees t) (walked-at t) walked.Post
 walked-enum-told-4 t c = search needs
 
--- src/lib.rt:316:13
 walked-returns-7 : (t : ℕ) → walked-lts.Need-returns-7 (callees t) (walked-at t) walked.Post
 walked-returns-7 t c = search repeated-operand-refused
 
--- src/lib.rt:318:9
 walked-repeated-requires : (t : ℕ) → walked-lts.Need-repeated-requires (callees t) (walked-at t) walked.Post
 walked-repeated-requires t c κs = (search repeated-ranged, search answer-is-small)
 
--- src/lib.rt:318:9
 walked-returns-8 : (t : ℕ) → walked-lts.Need-returns-8 (callees t) (walked-at t) walked.Post
 walked-returns-8 t c = search repeated-done
 
--- src/lib.rt:320:5
 walked-unvisited-requires : (t : ℕ) → walked-lts.Need-unvisited-requires (callees t) (walked-at t) walked.Post
 walked-unvisited-requires t c κs = search not-visited
 
--- src/lib.rt:287:1
 walked-returns-9 : (t : ℕ) → walked-lts.Need-returns-9 (callees t) (walked-at t) walked.Post
 walked-returns-9 t c = search unvisited-done
 

@@ -4,32 +4,24 @@ use Rattle.count.specs.Capped.{capped}
 use borrow.Author.Needs.{needs}
 use Rattle.count.proofs.capped.Statement.{statement}
 use Rattle.count.proofs.capped.Tie as tie
-use Rattle.count.proofs.capped.Reads as reads
-use Rattle.count.proofs.capped.Lts as lts
 
--- src/lib.rt:40:9
 returns : tie.Need-returns
 unfolding capped
 returns c = search tests depth 9
 
--- src/lib.rt:49:27
 cast-t6 : tie.Need-cast-t6
 cast-t6 c = search needs
 
--- src/lib.rt:48:9
 returns-2 : tie.Need-returns-2
 unfolding capped
 returns-2 c = search tests depth 9
 
--- src/lib.rt:56:23
 cast-t7 : tie.Need-cast-t7
 cast-t7 c = search needs
 
--- src/lib.rt:57:18
 cast-t8 : tie.Need-cast-t8
 cast-t8 c = search needs
 
--- src/lib.rt:36:1
 returns-3 : tie.Need-returns-3
 unfolding capped
 returns-3 c = search tests depth 9

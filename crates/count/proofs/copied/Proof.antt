@@ -4,9 +4,6 @@ use Prim.Native.Nat.{_-_}
 use Rattle.count.proofs.Leaves.{Copying, copying-begins, copying-on, copying-ends}
 use Rattle.count.proofs.copied.Statement.{statement}
 use Rattle.count.proofs.copied.Tie as tie
-use Rattle.count.proofs.copied.Reads as reads
-use Rattle.count.proofs.copied.Lts as lts
-use Rattle.count.proofs.product.Reads as product-reads
 
 abbrev Inv-loop : tie.InvT-loop
 Inv-loop base k copies₀ i₀ copies i = Copying base k copies i
@@ -14,27 +11,21 @@ Inv-loop base k copies₀ i₀ copies i = Copying base k copies i
 abbrev μ-loop : tie.MeasureT-loop
 μ-loop base k copies₀ i₀ copies i = k - i
 
--- src/lib.rt:115:5
 loop-holds : tie.Need-loop-holds Inv-loop μ-loop
 loop-holds c = search copying-begins
 
--- src/lib.rt:116:9
 product-requires : tie.Need-product-requires Inv-loop μ-loop
 product-requires c κs = search needs
 
--- src/lib.rt:117:9
 add-i : tie.Need-add-i Inv-loop μ-loop
 add-i c = search needs
 
--- src/lib.rt:115:5
 loop-less : tie.Need-loop-less Inv-loop μ-loop
 loop-less c = search needs
 
--- src/lib.rt:115:5
 loop-again : tie.Need-loop-again Inv-loop μ-loop
 loop-again c = search copying-on
 
--- src/lib.rt:109:1
 returns : tie.Need-returns Inv-loop μ-loop
 returns c = search copying-ends
 

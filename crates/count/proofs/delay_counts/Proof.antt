@@ -4,45 +4,31 @@ use Rattle.count.proofs.Leaves.{at-least-made, fixed-made}
 use borrow.Author.Needs.{needs}
 use Rattle.count.proofs.delay_counts.Statement.{statement}
 use Rattle.count.proofs.delay_counts.Tie as tie
-use Rattle.count.proofs.delay_counts.Reads as reads
-use Rattle.count.proofs.delay_counts.Lts as lts
-use Rattle.count.proofs.not_plain.Reads as not-plain-reads
-use Rattle.count.proofs.product.Reads as product-reads
-use Rattle.count.proofs.times.Reads as times-reads
 
--- src/lib.rt:180:27
 not-plain-requires : tie.Need-not-plain-requires
 not-plain-requires c κs = search needs
 
--- src/lib.rt:180:9
 product-requires : tie.Need-product-requires
 product-requires c κs = (search needs, search not-plain-is-small)
 
--- src/lib.rt:180:9
 returns : tie.Need-returns
 returns c = search at-least-made
 
--- src/lib.rt:182:12
 sub-times : tie.Need-sub-times
 sub-times c = search needs
 
--- src/lib.rt:182:11
 cast-times : tie.Need-cast-times
 cast-times c = search needs
 
--- src/lib.rt:182:11
 add-times : tie.Need-add-times
 add-times c = search needs
 
--- src/lib.rt:182:39
 product-requires-2 : tie.Need-product-requires-2
 product-requires-2 c κs = search needs
 
--- src/lib.rt:182:5
 times-requires : tie.Need-times-requires
 times-requires c κs = (search needs, search product-is-small)
 
--- src/lib.rt:175:1
 returns-2 : tie.Need-returns-2
 returns-2 c = search fixed-made
 

@@ -3,20 +3,15 @@ use Rattle.words.specs.Choice.{tests}
 use Rattle.count.specs.Nodes.{limit}
 use Rattle.count.proofs.limited.Statement.{statement}
 use Rattle.count.proofs.limited.Tie as tie
-use Rattle.count.proofs.limited.Reads as reads
-use Rattle.count.proofs.limited.Lts as lts
 
--- src/lib.rt:166:9
 returns : tie.Need-returns
 unfolding limit
 returns c = search tests depth 9
 
--- src/lib.rt:169:9
 returns-2 : tie.Need-returns-2
 unfolding limit
 returns-2 c = search tests depth 9
 
--- src/lib.rt:162:1
 returns-3 : tie.Need-returns-3
 unfolding limit
 returns-3 c = search tests depth 9

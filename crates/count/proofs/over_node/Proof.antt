@@ -5,30 +5,21 @@ use Rattle.count.proofs.Leaves.{over-made}
 use borrow.Author.Needs.{needs}
 use Rattle.count.proofs.over_node.Statement.{statement}
 use Rattle.count.proofs.over_node.Tie as tie
-use Rattle.count.proofs.over_node.Reads as reads
-use Rattle.count.proofs.over_node.Lts as lts
-use Rattle.count.proofs.limited.Reads as limited-reads
-use Rattle.count.proofs.with_empty.Reads as with-empty-reads
 
--- src/lib.rt:251:9
 returns : tie.Need-returns
 unfolding over-node
 returns c = search tests depth 9
 
--- src/lib.rt:254:9
 returns-2 : tie.Need-returns-2
 unfolding over-node
 returns-2 c = search tests depth 9
 
--- src/lib.rt:256:22
 with-empty-requires : tie.Need-with-empty-requires
 with-empty-requires c κs = search needs
 
--- src/lib.rt:256:5
 limited-requires : tie.Need-limited-requires
 limited-requires c κs = search needs
 
--- src/lib.rt:247:1
 returns-3 : tie.Need-returns-3
 returns-3 c = search over-made
 

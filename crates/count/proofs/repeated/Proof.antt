@@ -5,25 +5,17 @@ use Rattle.count.proofs.Leaves.{repeated-made}
 use borrow.Author.Needs.{needs}
 use Rattle.count.proofs.repeated.Statement.{statement}
 use Rattle.count.proofs.repeated.Tie as tie
-use Rattle.count.proofs.repeated.Reads as reads
-use Rattle.count.proofs.repeated.Lts as lts
-use Rattle.count.proofs.consec_counts.Reads as consec-counts-reads
-use Rattle.count.proofs.limited.Reads as limited-reads
 
--- src/lib.rt:220:9
 returns : tie.Need-returns
 unfolding repeated
 returns c = search tests depth 9
 
--- src/lib.rt:222:22
 consec-counts-requires : tie.Need-consec-counts-requires
 consec-counts-requires c κs = search needs
 
--- src/lib.rt:222:5
 limited-requires : tie.Need-limited-requires
 limited-requires c κs = search needs
 
--- src/lib.rt:215:1
 returns-2 : tie.Need-returns-2
 returns-2 c = search repeated-made
 

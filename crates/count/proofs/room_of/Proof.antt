@@ -4,19 +4,14 @@ use Rattle.meaning.specs.Refusals.{room-of}
 use borrow.Author.Needs.{needs}
 use Rattle.count.proofs.room_of.Statement.{statement}
 use Rattle.count.proofs.room_of.Tie as tie
-use Rattle.count.proofs.room_of.Reads as reads
-use Rattle.count.proofs.room_of.Lts as lts
 
--- src/lib.rt:349:9
 returns : tie.Need-returns
 unfolding room-of
 returns c = search tests depth 9
 
--- src/lib.rt:351:5
 cast-result : tie.Need-cast-result
 cast-result c = search needs
 
--- src/lib.rt:344:1
 returns-2 : tie.Need-returns-2
 unfolding room-of
 returns-2 c = search tests depth 9

@@ -4,10 +4,6 @@ use Prim.Native.Nat.{_-_}
 use Rattle.count.proofs.Leaves.{Summing, summing-begins, summing-on, summing-ends}
 use Rattle.count.proofs.summed.Statement.{statement}
 use Rattle.count.proofs.summed.Tie as tie
-use Rattle.count.proofs.summed.Reads as reads
-use Rattle.count.proofs.summed.Lts as lts
-use Rattle.count.proofs.product.Reads as product-reads
-use Rattle.count.proofs.sum.Reads as sum-reads
 
 abbrev Inv-loop : tie.InvT-loop
 Inv-loop base count total₀ copies₀ i₀ total copies i = Summing base copies₀ count total copies i
@@ -15,31 +11,24 @@ Inv-loop base count total₀ copies₀ i₀ total copies i = Summing base copies
 abbrev μ-loop : tie.MeasureT-loop
 μ-loop base count total₀ copies₀ i₀ total copies i = count - i
 
--- src/lib.rt:130:5
 loop-holds : tie.Need-loop-holds Inv-loop μ-loop
 loop-holds c = search summing-begins
 
--- src/lib.rt:131:9
 sum-requires : tie.Need-sum-requires Inv-loop μ-loop
 sum-requires c κs = search needs
 
--- src/lib.rt:132:9
 product-requires : tie.Need-product-requires Inv-loop μ-loop
 product-requires c κs = search needs
 
--- src/lib.rt:133:9
 add-i : tie.Need-add-i Inv-loop μ-loop
 add-i c = search needs
 
--- src/lib.rt:130:5
 loop-less : tie.Need-loop-less Inv-loop μ-loop
 loop-less c = search needs
 
--- src/lib.rt:130:5
 loop-again : tie.Need-loop-again Inv-loop μ-loop
 loop-again c = search summing-on
 
--- src/lib.rt:123:1
 returns : tie.Need-returns Inv-loop μ-loop
 returns c = search summing-ends
 

@@ -4,31 +4,22 @@ use Rattle.count.proofs.Bounds.{alternatives-of-hops-fit, entries-of-ho
 use borrow.Author.Needs.{needs}
 use Rattle.count.proofs.times.Statement.{statement}
 use Rattle.count.proofs.times.Tie as tie
-use Rattle.count.proofs.times.Reads as reads
-use Rattle.count.proofs.times.Lts as lts
-use Rattle.count.proofs.capped.Reads as capped-reads
 
--- src/lib.rt:103:31
 cast-alternatives : tie.Need-cast-alternatives
 cast-alternatives c = search needs
 
--- src/lib.rt:103:24
 mul-alternatives : tie.Need-mul-alternatives
 mul-alternatives c = search alternatives-of-hops-fit
 
--- src/lib.rt:104:26
 cast-entries : tie.Need-cast-entries
 cast-entries c = search needs
 
--- src/lib.rt:104:19
 mul-entries : tie.Need-mul-entries
 mul-entries c = search entries-of-hops-fit
 
--- src/lib.rt:105:5
 capped-requires : tie.Need-capped-requires
 capped-requires c κs = search needs
 
--- src/lib.rt:99:1
 returns : tie.Need-returns
 unfolding times
 returns c = search needs

@@ -5,48 +5,33 @@ use Rattle.count.proofs.Leaves.{no-repetition-made, operand-inside, ope
 use borrow.Author.Needs.{needs}
 use Rattle.count.proofs.unvisited.Statement.{statement}
 use Rattle.count.proofs.unvisited.Tie as tie
-use Rattle.count.proofs.unvisited.Reads as reads
-use Rattle.count.proofs.unvisited.Lts as lts
-use Rattle.count.proofs.limited.Reads as limited-reads
-use Rattle.count.proofs.over_node.Reads as over-node-reads
-use Rattle.tree.proofs.both.Reads as both-reads
-use Rattle.tree.proofs.read.Reads as read-reads
 
--- src/lib.rt:275:9
 returns : tie.Need-returns
 unfolding unvisited
 returns c = search tests depth 9
 
--- src/lib.rt:278:9
 limited-requires : tie.Need-limited-requires
 limited-requires c κs = search needs
 
--- src/lib.rt:278:9
 returns-2 : tie.Need-returns-2
 unfolding unvisited
 returns-2 c = search tests depth 9
 
--- src/lib.rt:280:8
 both-requires : tie.Need-both-requires
 both-requires c κs = search needs
 
--- src/lib.rt:281:9
 limited-requires-2 : tie.Need-limited-requires-2
 limited-requires-2 c κs = search needs
 
--- src/lib.rt:281:9
 returns-3 : tie.Need-returns-3
 returns-3 c = search no-repetition-made
 
--- src/lib.rt:283:27
 read-requires : tie.Need-read-requires
 read-requires c κs = (search operand-inside, search operand-few)
 
--- src/lib.rt:283:5
 over-node-requires : tie.Need-over-node-requires
 over-node-requires c κs = search needs
 
--- src/lib.rt:270:1
 returns-4 : tie.Need-returns-4
 returns-4 c = search over-node-made
 

@@ -4,20 +4,14 @@ use Rattle.count.specs.Capped.{with-empty}
 use borrow.Author.Needs.{needs}
 use Rattle.count.proofs.with_empty.Statement.{statement}
 use Rattle.count.proofs.with_empty.Tie as tie
-use Rattle.count.proofs.with_empty.Reads as reads
-use Rattle.count.proofs.with_empty.Lts as lts
-use Rattle.count.proofs.sum.Reads as sum-reads
 
--- src/lib.rt:144:9
 sum-requires : tie.Need-sum-requires
 sum-requires c κs = search needs
 
--- src/lib.rt:144:9
 returns : tie.Need-returns
 unfolding with-empty
 returns c = search tests depth 9
 
--- src/lib.rt:139:1
 returns-2 : tie.Need-returns-2
 unfolding with-empty
 returns-2 c = search tests depth 9

@@ -1,3 +1,4 @@
+-- `activation` puts constant one for the first term, else what its hop reaches it with.
 use Rattle.current.proofs.Walk.{first-activation-room, first-activation-done}
 use borrow.Author.Needs.{needs}
 use Rattle.current.proofs.activation.Statement.{statement}

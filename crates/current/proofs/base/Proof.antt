@@ -1,3 +1,4 @@
+-- `base` puts the first step's text, or that of a later step which begins anew.
 use Rattle.current.proofs.Walk.{first-base-room, first-base-done, later-base-room, later-base-done, piece-first, piece-not-first, piece-atom, piece-anew}
 use borrow.Author.Needs.{needs}
 use Rattle.current.proofs.base.Statement.{statement}

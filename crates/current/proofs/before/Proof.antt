@@ -1,3 +1,4 @@
+-- `before` puts the text after the step before.
 use Rattle.current.proofs.Walk.{before-behind, before-ready, before-room, before-done}
 use borrow.Author.Needs.{needs}
 use Rattle.current.proofs.before.Statement.{statement}

@@ -1,4 +1,5 @@
-use Rattle.current.specs.Text.{beforeEmpty}
+-- `before_empty` shortens a fixed hop by one tick, variant by variant.
+use Rattle.current.specs.Text.{before-empty}
 use borrow.Author.Needs.{needs}
 use Rattle.current.proofs.before_empty.Statement.{statement}
 use Rattle.current.proofs.before_empty.Tie as tie
@@ -13,11 +14,11 @@ enum-told : tie.Need-enum-told
 enum-told c = search needs
 
 returns : tie.Need-returns
-unfolding beforeEmpty
+unfolding before-empty
 returns c = cc
 
 returns-2 : tie.Need-returns-2
-unfolding beforeEmpty
+unfolding before-empty
 returns-2 c = cc
 
 pub before-empty-spec : {M : Type 1} → statement M

@@ -1,7 +1,8 @@
+-- `copied` puts one word after the other; what is left of them is said in `Copying`.
 use Prim.Native.Nat.{_-_}
 use borrow.Author.Needs.{needs}
 use lib.ListN.{length}
-use Rattle.current.proofs.Laws.{Copying, copying-begins, copying-on, copying-ends}
+use Rattle.words.proofs.Laws.{Copying, copying-begins, copying-on, copying-ends}
 use Rattle.current.proofs.copied.Statement.{statement}
 use Rattle.current.proofs.copied.Tie as tie
 

@@ -1,3 +1,4 @@
+-- `current` goes back over the steps that keep their text, and forth again; where it stands is said in `Back`.
 use borrow.Author.Needs.{needs}
 use Rattle.current.proofs.Walk.{Back, back-begins, back-inside, back-many, back-piece, back-later, back-less, back-room, back-behind, back-on, back-stops, back-base, back-tail, back-rest, back-done}
 use Rattle.current.proofs.current.Statement.{statement}

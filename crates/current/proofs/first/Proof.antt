@@ -1,3 +1,4 @@
+-- `first` puts the leading text, then the guard.
 use Rattle.current.proofs.Walk.{lead-first, lead-then, lead-done}
 use borrow.Author.Needs.{needs}
 use Rattle.current.proofs.first.Statement.{statement}

@@ -1,3 +1,4 @@
+-- `goes_on` makes the tests of `goes-on`.
 use Rattle.current.proofs.Walk.{on-zero, on-kept, on-anew}
 use borrow.Author.Needs.{needs}
 use Rattle.current.proofs.goes_on.Statement.{statement}

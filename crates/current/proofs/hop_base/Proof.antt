@@ -1,4 +1,5 @@
-use Rattle.current.specs.Text.{hopBase}
+-- `hop_base` puts the hop's last register, and the guard behind a fixed hop.
+use Rattle.current.specs.Text.{hop-base}
 use Rattle.current.proofs.Laws.{hop-base-in, hop-base-parts, hop-base-first, hop-base-rest, new-numbers}
 use borrow.Author.Needs.{needs}
 use Rattle.current.proofs.hop_base.Statement.{statement}
@@ -17,11 +18,11 @@ add-put-2 : tie.Need-add-put-2
 add-put-2 c = search new-numbers
 
 put-requires : tie.Need-put-requires
-unfolding hopBase
+unfolding hop-base
 put-requires c κs = search hop-base-first
 
 copied-requires : tie.Need-copied-requires
-unfolding hopBase
+unfolding hop-base
 copied-requires c κs = search hop-base-rest
 
 enum-known-h-2 : tie.Need-enum-known-h-2
@@ -37,21 +38,21 @@ add-put-4 : tie.Need-add-put-4
 add-put-4 c = search new-numbers
 
 put-requires-2 : tie.Need-put-requires-2
-unfolding hopBase
+unfolding hop-base
 put-requires-2 c κs = search hop-base-first
 
 same-length : tie.Need-same-length
 same-length c = search needs
 
 returns : tie.Need-returns
-unfolding hopBase
+unfolding hop-base
 returns c = search hop-base-parts
 
 same-length-2 : tie.Need-same-length-2
 same-length-2 c = search needs
 
 returns-2 : tie.Need-returns-2
-unfolding hopBase
+unfolding hop-base
 returns-2 c = search hop-base-in
 
 pub hop-base-spec : {M : Type 1} → statement M

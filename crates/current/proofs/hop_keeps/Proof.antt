@@ -1,4 +1,5 @@
-use Rattle.current.specs.Text.{hopKeeps}
+-- `hop_keeps` tests the ticks of a hop, variant by variant.
+use Rattle.current.specs.Text.{hop-keeps}
 use borrow.Author.Needs.{needs}
 use Rattle.current.proofs.hop_keeps.Statement.{statement}
 use Rattle.current.proofs.hop_keeps.Tie as tie
@@ -10,11 +11,11 @@ enum-known-h-2 : tie.Need-enum-known-h-2
 enum-known-h-2 c = search needs
 
 returns : tie.Need-returns
-unfolding hopKeeps
+unfolding hop-keeps
 returns c = cc
 
 returns-2 : tie.Need-returns-2
-unfolding hopKeeps
+unfolding hop-keeps
 returns-2 c = cc
 
 pub hop-keeps-spec : {M : Type 1} → statement M

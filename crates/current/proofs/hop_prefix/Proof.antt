@@ -1,5 +1,7 @@
-use Rattle.current.specs.Text.{hopPrefix}
-use Rattle.current.proofs.Laws.{nothing, hop-prefix-in, hop-prefix-room}
+-- `hop_prefix` puts the latch of an "at least" hop.
+use Rattle.current.specs.Text.{hop-prefix}
+use Rattle.words.proofs.Laws.{nothing-written}
+use Rattle.current.proofs.Laws.{hop-prefix-in, hop-prefix-room}
 use borrow.Author.Needs.{needs}
 use Rattle.current.proofs.hop_prefix.Statement.{statement}
 use Rattle.current.proofs.hop_prefix.Tie as tie
@@ -14,18 +16,18 @@ add-put : tie.Need-add-put
 add-put c = search needs
 
 put-requires : tie.Need-put-requires
-unfolding hopPrefix
+unfolding hop-prefix
 put-requires c κs = search hop-prefix-room
 
 returns : tie.Need-returns
-unfolding hopPrefix
-returns c = search (nothing, hop-prefix-in)
+unfolding hop-prefix
+returns c = search (nothing-written, hop-prefix-in)
 
 same-length : tie.Need-same-length
 same-length c = search needs
 
 returns-2 : tie.Need-returns-2
-unfolding hopPrefix
+unfolding hop-prefix
 returns-2 c = search hop-prefix-in
 
 pub hop-prefix-spec : {M : Type 1} → statement M

@@ -1,4 +1,5 @@
-use Rattle.current.specs.Text.{hopRegisters}
+-- `hop_registers` counts the registers of a hop, variant by variant, and finds them small.
+use Rattle.current.specs.Text.{hop-registers}
 use borrow.Author.Needs.{needs}
 use Rattle.current.proofs.hop_registers.Statement.{statement}
 use Rattle.current.proofs.hop_registers.Tie as tie
@@ -19,11 +20,11 @@ cast-result-2 : tie.Need-cast-result-2
 cast-result-2 c = search needs
 
 returns : tie.Need-returns
-unfolding hopRegisters
+unfolding hop-registers
 returns c = (cc, search needs)
 
 returns-2 : tie.Need-returns-2
-unfolding hopRegisters
+unfolding hop-registers
 returns-2 c = (cc, search needs)
 
 pub hop-registers-spec : {M : Type 1} → statement M

@@ -1,5 +1,7 @@
-use Rattle.current.specs.Text.{hopSuffix}
-use Rattle.current.proofs.Laws.{nothing, hop-suffix-in, hop-suffix-room}
+-- `hop_suffix` puts the `or` of an "at least" hop.
+use Rattle.current.specs.Text.{hop-suffix}
+use Rattle.words.proofs.Laws.{nothing-written}
+use Rattle.current.proofs.Laws.{hop-suffix-in, hop-suffix-room}
 use borrow.Author.Needs.{needs}
 use Rattle.current.proofs.hop_suffix.Statement.{statement}
 use Rattle.current.proofs.hop_suffix.Tie as tie
@@ -11,18 +13,18 @@ enum-told-2 : tie.Need-enum-told-2
 enum-told-2 c = search needs
 
 put-requires : tie.Need-put-requires
-unfolding hopSuffix
+unfolding hop-suffix
 put-requires c κs = search hop-suffix-room
 
 returns : tie.Need-returns
-unfolding hopSuffix
-returns c = search (nothing, hop-suffix-in)
+unfolding hop-suffix
+returns c = search (nothing-written, hop-suffix-in)
 
 same-length : tie.Need-same-length
 same-length c = search needs
 
 returns-2 : tie.Need-returns-2
-unfolding hopSuffix
+unfolding hop-suffix
 returns-2 c = search hop-suffix-in
 
 pub hop-suffix-spec : {M : Type 1} → statement M

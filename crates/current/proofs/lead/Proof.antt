@@ -1,4 +1,5 @@
-use Rattle.current.specs.Text.{leadText}
+-- `lead` puts the first term, variant by variant.
+use Rattle.current.specs.Text.{lead-text}
 use Rattle.current.proofs.Laws.{lead-in, lead-room, lead-word-room, lead-machine-in, lead-machine-room, atom-fits}
 use borrow.Author.Needs.{needs}
 use Rattle.current.proofs.lead.Statement.{statement}
@@ -14,70 +15,70 @@ slice-aggregate-copied : tie.Need-slice-aggregate-copied
 slice-aggregate-copied c = search needs
 
 copied-requires : tie.Need-copied-requires
-unfolding leadText
+unfolding lead-text
 copied-requires c κs = search lead-room
 
 enum-told : tie.Need-enum-told
 enum-told c = search needs
 
 lead-machine-requires : tie.Need-lead-machine-requires
-unfolding leadText
+unfolding lead-text
 lead-machine-requires c κs = (search lead-machine-room, search needs, search needs)
 
 enum-told-2 : tie.Need-enum-told-2
 enum-told-2 c = search needs
 
 lead-machine-requires-2 : tie.Need-lead-machine-requires-2
-unfolding leadText
+unfolding lead-text
 lead-machine-requires-2 c κs = (search lead-machine-room, search needs, search needs)
 
 enum-told-3 : tie.Need-enum-told-3
 enum-told-3 c = search needs
 
 lead-machine-requires-3 : tie.Need-lead-machine-requires-3
-unfolding leadText
+unfolding lead-text
 lead-machine-requires-3 c κs = (search lead-machine-room, search needs, search needs)
 
 enum-told-4 : tie.Need-enum-told-4
 enum-told-4 c = search needs
 
 put-requires : tie.Need-put-requires
-unfolding leadText
+unfolding lead-text
 put-requires c κs = search lead-word-room
 
 same-length : tie.Need-same-length
 same-length c = search needs
 
 returns : tie.Need-returns
-unfolding leadText
+unfolding lead-text
 returns c = search lead-in
 
 same-length-2 : tie.Need-same-length-2
 same-length-2 c = search needs
 
 returns-2 : tie.Need-returns-2
-unfolding leadText
+unfolding lead-text
 returns-2 c = search lead-machine-in
 
 same-length-3 : tie.Need-same-length-3
 same-length-3 c = search needs
 
 returns-3 : tie.Need-returns-3
-unfolding leadText
+unfolding lead-text
 returns-3 c = search lead-machine-in
 
 same-length-4 : tie.Need-same-length-4
 same-length-4 c = search needs
 
 returns-4 : tie.Need-returns-4
-unfolding leadText
+unfolding lead-text
 returns-4 c = search lead-machine-in
 
 same-length-5 : tie.Need-same-length-5
 same-length-5 c = search needs
 
 returns-5 : tie.Need-returns-5
-unfolding leadText
+unfolding lead-text
 returns-5 c = search lead-in
 
 pub lead-spec : {M : Type 1} → statement M

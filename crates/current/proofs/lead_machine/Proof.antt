@@ -1,3 +1,4 @@
+-- `lead_machine` puts a machine around constant one, or anew.
 use Rattle.current.proofs.Laws.{text-prefix-room, text-middle-room, text-suffix-room, text-kept-done, text-base-room, text-new-done, no-keep}
 use borrow.Author.Needs.{needs}
 use Rattle.current.proofs.lead_machine.Statement.{statement}

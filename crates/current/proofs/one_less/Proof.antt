@@ -1,3 +1,4 @@
+-- `one_less` is subtraction that ends at 0.
 use borrow.Author.Needs.{needs}
 use Rattle.current.proofs.one_less.Statement.{statement}
 use Rattle.current.proofs.one_less.Tie as tie

@@ -1,3 +1,4 @@
+-- `prefix` puts the prefix of the step that it reads.
 use Rattle.current.proofs.Walk.{read-prefix-room, read-prefix-done, piece-later, piece-atom}
 use borrow.Author.Needs.{needs}
 use Rattle.current.proofs.prefix.Statement.{statement}

@@ -1,3 +1,4 @@
+-- `reach` makes the one test of `reach`.
 use Rattle.current.proofs.Laws.{reach-empty, reach-other}
 use borrow.Author.Needs.{needs}
 use Rattle.current.proofs.reach.Statement.{statement}

@@ -1,3 +1,4 @@
+-- `reached` puts the text before the hop between what the hop adds, or the hop's text anew.
 use Rattle.current.proofs.Walk.{reached-small, reached-first, reached-then, reached-last, reached-done, reached-base, reached-base-done, hop-not-kept}
 use borrow.Author.Needs.{needs}
 use Rattle.current.proofs.reached.Statement.{statement}

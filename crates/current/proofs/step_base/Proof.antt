@@ -1,3 +1,4 @@
+-- `step_base` puts the term's text around the hop's, or the term's anew.
 use Rattle.current.proofs.Laws.{no-keep}
 use Rattle.current.proofs.Walk.{base-first, base-then, base-last, base-done, anew-room, anew-done, hop-anew, term-small, hop-small}
 use borrow.Author.Needs.{needs}

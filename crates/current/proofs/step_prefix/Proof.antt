@@ -1,3 +1,4 @@
+-- `step_prefix` puts the term's prefix, then the hop's.
 use Rattle.current.proofs.Walk.{prefix-first, prefix-then, prefix-done, term-small, hop-small}
 use borrow.Author.Needs.{needs}
 use Rattle.current.proofs.step_prefix.Statement.{statement}

@@ -1,3 +1,4 @@
+-- `step_suffix` puts the hop's suffix, then the term's.
 use Rattle.current.proofs.Walk.{suffix-first, suffix-then, suffix-done, term-small}
 use borrow.Author.Needs.{needs}
 use Rattle.current.proofs.step_suffix.Statement.{statement}

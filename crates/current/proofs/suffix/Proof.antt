@@ -1,3 +1,4 @@
+-- `suffix` puts the suffix of the step that it reads.
 use Rattle.current.proofs.Walk.{read-suffix-room, read-suffix-done, piece-later, piece-atom}
 use borrow.Author.Needs.{needs}
 use Rattle.current.proofs.suffix.Statement.{statement}

@@ -1,3 +1,4 @@
+-- `suffixes` puts one suffix after the other; what is left of them is said in `Forth`.
 use Prim.Native.Nat.{_-_}
 use borrow.Author.Needs.{needs}
 use Rattle.current.proofs.Walk.{Forth, forth-begins, forth-inside, forth-many, forth-high, forth-piece, forth-room, forth-on, forth-ends}

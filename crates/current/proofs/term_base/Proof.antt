@@ -1,5 +1,7 @@
-use Rattle.current.specs.Text.{termBase}
-use Rattle.current.proofs.Laws.{nothing, base-in, base-room, new-numbers}
+-- `term_base` puts the text of a machine that begins anew, variant by variant.
+use Rattle.current.specs.Text.{term-base}
+use Rattle.words.proofs.Laws.{nothing-written}
+use Rattle.current.proofs.Laws.{base-in, base-room, new-numbers}
 use borrow.Author.Needs.{needs}
 use Rattle.current.proofs.term_base.Statement.{statement}
 use Rattle.current.proofs.term_base.Tie as tie
@@ -26,7 +28,7 @@ slice-aggregate-copied : tie.Need-slice-aggregate-copied
 slice-aggregate-copied c = search needs
 
 copied-requires : tie.Need-copied-requires
-unfolding termBase
+unfolding term-base
 copied-requires c κs = search base-room
 
 enum-known-x-2 : tie.Need-enum-known-x-2
@@ -57,7 +59,7 @@ slice-aggregate-copied-2 : tie.Need-slice-aggregate-copied-2
 slice-aggregate-copied-2 c = search needs
 
 copied-requires-2 : tie.Need-copied-requires-2
-unfolding termBase
+unfolding term-base
 copied-requires-2 c κs = search base-room
 
 enum-known-x-3 : tie.Need-enum-known-x-3
@@ -88,40 +90,40 @@ slice-aggregate-copied-3 : tie.Need-slice-aggregate-copied-3
 slice-aggregate-copied-3 c = search needs
 
 copied-requires-3 : tie.Need-copied-requires-3
-unfolding termBase
+unfolding term-base
 copied-requires-3 c κs = search base-room
 
 enum-told-2 : tie.Need-enum-told-2
 enum-told-2 c = search needs
 
 returns : tie.Need-returns
-unfolding termBase
-returns c = search (nothing, base-in)
+unfolding term-base
+returns c = search (nothing-written, base-in)
 
 same-length : tie.Need-same-length
 same-length c = search needs
 
 returns-2 : tie.Need-returns-2
-unfolding termBase
+unfolding term-base
 returns-2 c = search base-in
 
 same-length-2 : tie.Need-same-length-2
 same-length-2 c = search needs
 
 returns-3 : tie.Need-returns-3
-unfolding termBase
+unfolding term-base
 returns-3 c = search base-in
 
 same-length-3 : tie.Need-same-length-3
 same-length-3 c = search needs
 
 returns-4 : tie.Need-returns-4
-unfolding termBase
+unfolding term-base
 returns-4 c = search base-in
 
 returns-5 : tie.Need-returns-5
-unfolding termBase
-returns-5 c = search (nothing, base-in)
+unfolding term-base
+returns-5 c = search (nothing-written, base-in)
 
 pub term-base-spec : {M : Type 1} → statement M
 term-base-spec =

@@ -1,4 +1,5 @@
-use Rattle.current.specs.Text.{termKeeps}
+-- `term_keeps` tests the count of a machine, variant by variant.
+use Rattle.current.specs.Text.{term-keeps}
 use borrow.Author.Needs.{needs}
 use Rattle.current.proofs.term_keeps.Statement.{statement}
 use Rattle.current.proofs.term_keeps.Tie as tie
@@ -19,23 +20,23 @@ enum-told-2 : tie.Need-enum-told-2
 enum-told-2 c = search needs
 
 returns : tie.Need-returns
-unfolding termKeeps
+unfolding term-keeps
 returns c = cc
 
 returns-2 : tie.Need-returns-2
-unfolding termKeeps
+unfolding term-keeps
 returns-2 c = cc
 
 returns-3 : tie.Need-returns-3
-unfolding termKeeps
+unfolding term-keeps
 returns-3 c = cc
 
 returns-4 : tie.Need-returns-4
-unfolding termKeeps
+unfolding term-keeps
 returns-4 c = cc
 
 returns-5 : tie.Need-returns-5
-unfolding termKeeps
+unfolding term-keeps
 returns-5 c = cc
 
 pub term-keeps-spec : {M : Type 1} → statement M

@@ -1,5 +1,7 @@
-use Rattle.current.specs.Text.{termPrefix}
-use Rattle.current.proofs.Laws.{nothing, prefix-in, prefix-room, atom-fits}
+-- `term_prefix` puts what stands in front of an activation, variant by variant.
+use Rattle.current.specs.Text.{term-prefix}
+use Rattle.words.proofs.Laws.{nothing-written}
+use Rattle.current.proofs.Laws.{prefix-in, prefix-room, atom-fits}
 use borrow.Author.Needs.{needs}
 use Rattle.current.proofs.term_prefix.Statement.{statement}
 use Rattle.current.proofs.term_prefix.Tie as tie
@@ -20,7 +22,7 @@ slice-aggregate-copied : tie.Need-slice-aggregate-copied
 slice-aggregate-copied c = search needs
 
 copied-requires : tie.Need-copied-requires
-unfolding termPrefix
+unfolding term-prefix
 copied-requires c κs = search prefix-room
 
 enum-known-x-2 : tie.Need-enum-known-x-2
@@ -36,7 +38,7 @@ slice-aggregate-copied-2 : tie.Need-slice-aggregate-copied-2
 slice-aggregate-copied-2 c = search needs
 
 copied-requires-2 : tie.Need-copied-requires-2
-unfolding termPrefix
+unfolding term-prefix
 copied-requires-2 c κs = search prefix-room
 
 enum-told-2 : tie.Need-enum-told-2
@@ -46,30 +48,30 @@ enum-told-3 : tie.Need-enum-told-3
 enum-told-3 c = search needs
 
 returns : tie.Need-returns
-unfolding termPrefix
-returns c = search (nothing, prefix-in)
+unfolding term-prefix
+returns c = search (nothing-written, prefix-in)
 
 same-length : tie.Need-same-length
 same-length c = search needs
 
 returns-2 : tie.Need-returns-2
-unfolding termPrefix
+unfolding term-prefix
 returns-2 c = search prefix-in
 
 same-length-2 : tie.Need-same-length-2
 same-length-2 c = search needs
 
 returns-3 : tie.Need-returns-3
-unfolding termPrefix
+unfolding term-prefix
 returns-3 c = search prefix-in
 
 returns-4 : tie.Need-returns-4
-unfolding termPrefix
-returns-4 c = search (nothing, prefix-in)
+unfolding term-prefix
+returns-4 c = search (nothing-written, prefix-in)
 
 returns-5 : tie.Need-returns-5
-unfolding termPrefix
-returns-5 c = search (nothing, prefix-in)
+unfolding term-prefix
+returns-5 c = search (nothing-written, prefix-in)
 
 pub term-prefix-spec : {M : Type 1} → statement M
 term-prefix-spec =

@@ -1,3 +1,4 @@
+-- `term_register` steps over the registers of the hop.
 use Rattle.current.proofs.Laws.{term-register-fits, term-register-done}
 use borrow.Author.Needs.{needs}
 use Rattle.current.proofs.term_register.Statement.{statement}

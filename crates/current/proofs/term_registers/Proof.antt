@@ -1,4 +1,5 @@
-use Rattle.current.specs.Text.{termRegisters}
+-- `term_registers` counts the registers of a term, variant by variant, and finds them small.
+use Rattle.current.specs.Text.{term-registers}
 use borrow.Author.Needs.{needs}
 use Rattle.current.proofs.term_registers.Statement.{statement}
 use Rattle.current.proofs.term_registers.Tie as tie
@@ -40,23 +41,23 @@ enum-told-2 : tie.Need-enum-told-2
 enum-told-2 c = search needs
 
 returns : tie.Need-returns
-unfolding termRegisters
+unfolding term-registers
 returns c = (cc, search needs)
 
 returns-2 : tie.Need-returns-2
-unfolding termRegisters
+unfolding term-registers
 returns-2 c = (cc, search needs)
 
 returns-3 : tie.Need-returns-3
-unfolding termRegisters
+unfolding term-registers
 returns-3 c = (cc, search needs)
 
 returns-4 : tie.Need-returns-4
-unfolding termRegisters
+unfolding term-registers
 returns-4 c = (cc, search needs)
 
 returns-5 : tie.Need-returns-5
-unfolding termRegisters
+unfolding term-registers
 returns-5 c = (cc, search needs)
 
 pub term-registers-spec : {M : Type 1} → statement M

@@ -1,5 +1,7 @@
-use Rattle.current.specs.Text.{termSuffix}
-use Rattle.current.proofs.Laws.{nothing, suffix-in, suffix-room, atom-fits}
+-- `term_suffix` puts what stands behind an activation, variant by variant.
+use Rattle.current.specs.Text.{term-suffix}
+use Rattle.words.proofs.Laws.{nothing-written}
+use Rattle.current.proofs.Laws.{suffix-in, suffix-room, atom-fits}
 use borrow.Author.Needs.{needs}
 use Rattle.current.proofs.term_suffix.Statement.{statement}
 use Rattle.current.proofs.term_suffix.Tie as tie
@@ -14,7 +16,7 @@ slice-aggregate-copied : tie.Need-slice-aggregate-copied
 slice-aggregate-copied c = search needs
 
 copied-requires : tie.Need-copied-requires
-unfolding termSuffix
+unfolding term-suffix
 copied-requires c κs = search suffix-room
 
 enum-told : tie.Need-enum-told
@@ -24,7 +26,7 @@ slice-aggregate-copied-2 : tie.Need-slice-aggregate-copied-2
 slice-aggregate-copied-2 c = search needs
 
 copied-requires-2 : tie.Need-copied-requires-2
-unfolding termSuffix
+unfolding term-suffix
 copied-requires-2 c κs = search suffix-room
 
 enum-known-x-2 : tie.Need-enum-known-x-2
@@ -43,7 +45,7 @@ slice-aggregate-copied-3 : tie.Need-slice-aggregate-copied-3
 slice-aggregate-copied-3 c = search needs
 
 copied-requires-3 : tie.Need-copied-requires-3
-unfolding termSuffix
+unfolding term-suffix
 copied-requires-3 c κs = search suffix-room
 
 enum-known-x-3 : tie.Need-enum-known-x-3
@@ -59,7 +61,7 @@ slice-aggregate-copied-4 : tie.Need-slice-aggregate-copied-4
 slice-aggregate-copied-4 c = search needs
 
 copied-requires-4 : tie.Need-copied-requires-4
-unfolding termSuffix
+unfolding term-suffix
 copied-requires-4 c κs = search suffix-room
 
 enum-told-2 : tie.Need-enum-told-2
@@ -69,33 +71,33 @@ same-length : tie.Need-same-length
 same-length c = search needs
 
 returns : tie.Need-returns
-unfolding termSuffix
+unfolding term-suffix
 returns c = search suffix-in
 
 same-length-2 : tie.Need-same-length-2
 same-length-2 c = search needs
 
 returns-2 : tie.Need-returns-2
-unfolding termSuffix
+unfolding term-suffix
 returns-2 c = search suffix-in
 
 same-length-3 : tie.Need-same-length-3
 same-length-3 c = search needs
 
 returns-3 : tie.Need-returns-3
-unfolding termSuffix
+unfolding term-suffix
 returns-3 c = search suffix-in
 
 same-length-4 : tie.Need-same-length-4
 same-length-4 c = search needs
 
 returns-4 : tie.Need-returns-4
-unfolding termSuffix
+unfolding term-suffix
 returns-4 c = search suffix-in
 
 returns-5 : tie.Need-returns-5
-unfolding termSuffix
-returns-5 c = search (nothing, suffix-in)
+unfolding term-suffix
+returns-5 c = search (nothing-written, suffix-in)
 
 pub term-suffix-spec : {M : Type 1} → statement M
 term-suffix-spec =

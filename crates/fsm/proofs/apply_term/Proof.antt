@@ -1,6 +1,7 @@
-use Rattle.fsm.specs.Stores.{termStores}
-use Rattle.current.specs.Text.{termRegisters}
-use Rattle.current.proofs.Laws.{nothing}
+-- `apply_term` puts the stores of a later term, variant by variant.
+use Rattle.fsm.specs.Stores.{term-store-words}
+use Rattle.current.specs.Text.{term-registers}
+use Rattle.words.proofs.Laws.{nothing-written}
 use Rattle.fsm.proofs.Laws.{stores-in, stores-room, variant-atom, variant-registers, nonconsec-variant-registers}
 use borrow.Author.Needs.{needs}
 use Rattle.fsm.proofs.apply_term.Statement.{statement}
@@ -13,54 +14,54 @@ enum-known-x : tie.Need-enum-known-x
 enum-known-x c = search needs
 
 goto-fsm-requires : tie.Need-goto-fsm-requires
-unfolding termStores termRegisters
+unfolding term-store-words term-registers
 goto-fsm-requires c κs = (search needs, search variant-atom, search variant-registers, search stores-room)
 
 enum-known-x-2 : tie.Need-enum-known-x-2
 enum-known-x-2 c = search needs
 
 nonconsec-fsm-requires : tie.Need-nonconsec-fsm-requires
-unfolding termStores termRegisters
+unfolding term-store-words term-registers
 nonconsec-fsm-requires c κs = (search needs, search variant-atom, search nonconsec-variant-registers, search stores-room)
 
 enum-known-x-3 : tie.Need-enum-known-x-3
 enum-known-x-3 c = search needs
 
 consec-run-fsm-requires : tie.Need-consec-run-fsm-requires
-unfolding termStores termRegisters
+unfolding term-store-words term-registers
 consec-run-fsm-requires c κs = (search needs, search variant-atom, search variant-registers, search stores-room)
 
 enum-told-2 : tie.Need-enum-told-2
 enum-told-2 c = search needs
 
 returns : tie.Need-returns
-unfolding termStores
-returns c = search (nothing, stores-in)
+unfolding term-store-words
+returns c = search (nothing-written, stores-in)
 
 same-length : tie.Need-same-length
 same-length c = search needs
 
 returns-2 : tie.Need-returns-2
-unfolding termStores
+unfolding term-store-words
 returns-2 c = search stores-in
 
 same-length-2 : tie.Need-same-length-2
 same-length-2 c = search needs
 
 returns-3 : tie.Need-returns-3
-unfolding termStores
+unfolding term-store-words
 returns-3 c = search stores-in
 
 same-length-3 : tie.Need-same-length-3
 same-length-3 c = search needs
 
 returns-4 : tie.Need-returns-4
-unfolding termStores
+unfolding term-store-words
 returns-4 c = search stores-in
 
 returns-5 : tie.Need-returns-5
-unfolding termStores
-returns-5 c = search (nothing, stores-in)
+unfolding term-store-words
+returns-5 c = search (nothing-written, stores-in)
 
 pub apply-term-spec : {M : Type 1} → statement M
 apply-term-spec =

@@ -1,3 +1,4 @@
+-- `consec_run_fsm` puts the only register's store, or the first one's and then the others'.
 use Rattle.fsm.proofs.Laws.{first-register-small, run-small, run-only-room, run-only-done, run-first-room, run-later-room, run-done}
 use borrow.Author.Needs.{needs}
 use Rattle.fsm.proofs.consec_run_fsm.Statement.{statement}

@@ -1,3 +1,4 @@
+-- `extension` puts the match, then the store of the extension.
 use Rattle.fsm.proofs.Laws.{nonconsec-registers, extension-done}
 use borrow.Author.Needs.{needs}
 use Rattle.fsm.proofs.extension.Statement.{statement}

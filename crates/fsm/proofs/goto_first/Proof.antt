@@ -1,3 +1,4 @@
+-- `goto_first` puts the store of the first register around the activation.
 use Rattle.fsm.proofs.Laws.{after-one}
 use borrow.Author.Needs.{needs}
 use Rattle.fsm.proofs.goto_first.Statement.{statement}

@@ -1,3 +1,4 @@
+-- `goto_fsm` puts the first register's store, the second one's and then the others', as many as there are.
 use Rattle.fsm.proofs.Laws.{first-register-small, second-register-small, stages-small, goto-first-room, goto-one-done, goto-second-room, goto-stages-room, goto-done}
 use borrow.Author.Needs.{needs}
 use Rattle.fsm.proofs.goto_fsm.Statement.{statement}

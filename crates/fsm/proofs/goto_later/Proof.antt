@@ -1,3 +1,4 @@
+-- `goto_later` puts one stage after the other; what is left of them is said in `Staging`.
 use Prim.Native.Nat.{_-_}
 use borrow.Author.Needs.{needs}
 use Rattle.fsm.proofs.Laws.{Staging, staging-begins, staging-room, staging-on, staging-ends}

@@ -1,3 +1,4 @@
+-- `goto_second` puts the store of the second register around the activation.
 use Rattle.fsm.proofs.Laws.{after-three}
 use borrow.Author.Needs.{needs}
 use Rattle.fsm.proofs.goto_second.Statement.{statement}

@@ -1,3 +1,4 @@
+-- `nonconsec_fsm` puts the goto's stores, then the extension.
 use Rattle.fsm.proofs.Laws.{nonconsec-goto-room, nonconsec-extension-room, nonconsec-done}
 use borrow.Author.Needs.{needs}
 use Rattle.fsm.proofs.nonconsec_fsm.Statement.{statement}

@@ -1,3 +1,4 @@
+-- `run_first` puts the activation, then the store of the first register.
 use Rattle.fsm.proofs.Laws.{before-words}
 use borrow.Author.Needs.{needs}
 use Rattle.fsm.proofs.run_first.Statement.{statement}

@@ -1,3 +1,4 @@
+-- `run_later` puts one stage after the other; what is left of them is said in `Running`.
 use Prim.Native.Nat.{_-_}
 use borrow.Author.Needs.{needs}
 use Rattle.fsm.proofs.Laws.{Running, running-begins, running-room, running-on, running-last, running-ends}

@@ -1,3 +1,4 @@
+-- `run_only` puts the activation, then the store of the only register.
 use Rattle.fsm.proofs.Laws.{before-words}
 use borrow.Author.Needs.{needs}
 use Rattle.fsm.proofs.run_only.Statement.{statement}

@@ -6,38 +6,30 @@ use borrow.Author.Needs.{needs}
 use Rattle.listing.proofs.argument_fits.Statement.{statement}
 use Rattle.listing.proofs.argument_fits.Tie as tie
 
--- src/lib.rt:111:13
 cast-a : tie.Need-cast-a
 cast-a c = search needs
 
--- src/lib.rt:113:9
 returns : tie.Need-returns
 unfolding argument-fits
 returns c = search tests
 
--- src/lib.rt:117:13
 returns-2 : tie.Need-returns-2
 unfolding argument-fits
 returns-2 c = search tests depth 9
 
--- src/lib.rt:119:9
 returns-3 : tie.Need-returns-3
 unfolding argument-fits
 returns-3 c = search tests depth 9
 
--- src/lib.rt:121:8
 is-store-requires : tie.Need-is-store-requires
 is-store-requires c κs = search needs
 
--- src/lib.rt:123:13
 returns-4 : tie.Need-returns-4
 returns-4 c = search (by-store, tests) depth 9
 
--- src/lib.rt:125:9
 returns-5 : tie.Need-returns-5
 returns-5 c = search (by-store, tests) depth 9
 
--- src/lib.rt:107:1
 returns-6 : tie.Need-returns-6
 returns-6 c = search (by-store, tests) depth 9
 

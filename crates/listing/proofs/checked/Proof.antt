@@ -12,59 +12,45 @@ Inv-loop listing count stores₀ height₀ i₀ stores height i = Checking listi
 abbrev μ-loop : tie.MeasureT-loop
 μ-loop listing count stores₀ height₀ i₀ stores height i = length listing - i
 
--- src/lib.rt:168:9
 registers-requires : tie.Need-registers-requires Inv-loop μ-loop
 registers-requires c κs = search needs
 
--- src/lib.rt:172:5
 loop-holds : tie.Need-loop-holds Inv-loop μ-loop
 loop-holds c = search checking-begins
 
--- src/lib.rt:173:17
 mul-w : tie.Need-mul-w Inv-loop μ-loop
 mul-w c = search needs
 
--- src/lib.rt:173:17
 shared-slice-read-w : tie.Need-shared-slice-read-w Inv-loop μ-loop
 shared-slice-read-w c = search needs
 
--- src/lib.rt:174:20
 add-next : tie.Need-add-next Inv-loop μ-loop
 add-next c = search needs
 
--- src/lib.rt:175:13
 word-fits-requires : tie.Need-word-fits-requires Inv-loop μ-loop
 word-fits-requires c κs = search needs
 
--- src/lib.rt:176:13
 returns : tie.Need-returns Inv-loop μ-loop
 returns c = search faulty-here
 
--- src/lib.rt:180:17
 returns-2 : tie.Need-returns-2 Inv-loop μ-loop
 returns-2 c = search faulty-past
 
--- src/lib.rt:182:13
 returns-3 : tie.Need-returns-3 Inv-loop μ-loop
 returns-3 c = search described-there
 
--- src/lib.rt:184:9
 stores-with-requires : tie.Need-stores-with-requires Inv-loop μ-loop
 stores-with-requires c κs = search needs
 
--- src/lib.rt:185:9
 height-with-requires : tie.Need-height-with-requires Inv-loop μ-loop
 height-with-requires c κs = (search fits-here, search needs)
 
--- src/lib.rt:172:5
 loop-less : tie.Need-loop-less Inv-loop μ-loop
 loop-less c = search needs
 
--- src/lib.rt:172:5
 loop-again : tie.Need-loop-again Inv-loop μ-loop
 loop-again c = search checking-on
 
--- src/lib.rt:165:1
 returns-4 : tie.Need-returns-4 Inv-loop μ-loop
 returns-4 c = search ends-early
 

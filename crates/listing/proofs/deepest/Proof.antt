@@ -12,39 +12,30 @@ Inv-loop listing deepest₀ height₀ i₀ deepest height i = Deepening listing 
 abbrev μ-loop : tie.MeasureT-loop
 μ-loop listing deepest₀ height₀ i₀ deepest height i = length listing - i
 
--- src/lib.rt:205:5
 loop-holds : tie.Need-loop-holds Inv-loop μ-loop
 loop-holds c = search deepening-begins
 
--- src/lib.rt:206:38
 mul-height-with : tie.Need-mul-height-with Inv-loop μ-loop
 mul-height-with c = search needs
 
--- src/lib.rt:206:38
 shared-slice-read-height-with : tie.Need-shared-slice-read-height-with Inv-loop μ-loop
 shared-slice-read-height-with c = search needs
 
--- src/lib.rt:206:9
 height-with-requires : tie.Need-height-with-requires Inv-loop μ-loop
 height-with-requires c κs = (search operand-found, search needs)
 
--- src/lib.rt:207:9
 larger-requires : tie.Need-larger-requires Inv-loop μ-loop
 larger-requires c κs = search needs
 
--- src/lib.rt:208:9
 add-i : tie.Need-add-i Inv-loop μ-loop
 add-i c = search needs
 
--- src/lib.rt:205:5
 loop-less : tie.Need-loop-less Inv-loop μ-loop
 loop-less c = search needs
 
--- src/lib.rt:205:5
 loop-again : tie.Need-loop-again Inv-loop μ-loop
 loop-again c = search deepening-on
 
--- src/lib.rt:198:1
 returns : tie.Need-returns Inv-loop μ-loop
 returns c = search deepening-ends
 

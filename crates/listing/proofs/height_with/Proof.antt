@@ -4,27 +4,21 @@ use borrow.Author.Needs.{needs}
 use Rattle.listing.proofs.height_with.Statement.{statement}
 use Rattle.listing.proofs.height_with.Tie as tie
 
--- src/lib.rt:89:9
 row-requires : tie.Need-row-requires
 row-requires c κs = search needs
 
--- src/lib.rt:90:14
 cast-result : tie.Need-cast-result
 cast-result c = search needs
 
--- src/lib.rt:90:5
 sub-result : tie.Need-sub-result
 sub-result c = search takes-found
 
--- src/lib.rt:90:35
 cast-result-2 : tie.Need-cast-result-2
 cast-result-2 c = search needs
 
--- src/lib.rt:90:5
 add-result : tie.Need-add-result
 add-result c = search needs
 
--- src/lib.rt:85:1
 returns : tie.Need-returns
 returns c = search height-by-row
 

@@ -1,16 +1,13 @@
 -- A register's store is told by its operation.
-use borrow.Author.Needs.{needs}
 use Rattle.words.specs.Choice.{tests}
 use Rattle.meaning.specs.Listing.{is-store}
 use Rattle.listing.proofs.is_store.Statement.{statement}
 use Rattle.listing.proofs.is_store.Tie as tie
 
--- src/lib.rt:68:9
 returns : tie.Need-returns
 unfolding is-store
 returns c = search tests
 
--- src/lib.rt:63:1
 returns-2 : tie.Need-returns-2
 unfolding is-store
 returns-2 c = search tests

@@ -5,23 +5,18 @@ use borrow.Author.Needs.{needs}
 use Rattle.listing.proofs.operands_fit.Statement.{statement}
 use Rattle.listing.proofs.operands_fit.Tie as tie
 
--- src/lib.rt:136:9
 row-requires : tie.Need-row-requires
 row-requires c κs = search needs
 
--- src/lib.rt:137:17
 cast-if1 : tie.Need-cast-if1
 cast-if1 c = search needs
 
--- src/lib.rt:138:9
 returns : tie.Need-returns
 returns c = search (by-row, tests) depth 9
 
--- src/lib.rt:141:9
 returns-2 : tie.Need-returns-2
 returns-2 c = search (by-row, tests) depth 9
 
--- src/lib.rt:131:1
 returns-3 : tie.Need-returns-3
 returns-3 c = search (by-row, tests) depth 9
 

@@ -12,35 +12,27 @@ Inv-loop listing stores₀ i₀ stores i = Counting listing stores i
 abbrev μ-loop : tie.MeasureT-loop
 μ-loop listing stores₀ i₀ stores i = length listing - i
 
--- src/lib.rt:99:5
 loop-holds : tie.Need-loop-holds Inv-loop μ-loop
 loop-holds c = search counting-begins
 
--- src/lib.rt:100:38
 mul-stores-with : tie.Need-mul-stores-with Inv-loop μ-loop
 mul-stores-with c = search needs
 
--- src/lib.rt:100:38
 shared-slice-read-stores-with : tie.Need-shared-slice-read-stores-with Inv-loop μ-loop
 shared-slice-read-stores-with c = search needs
 
--- src/lib.rt:100:9
 stores-with-requires : tie.Need-stores-with-requires Inv-loop μ-loop
 stores-with-requires c κs = search needs
 
--- src/lib.rt:101:9
 add-i : tie.Need-add-i Inv-loop μ-loop
 add-i c = search needs
 
--- src/lib.rt:99:5
 loop-less : tie.Need-loop-less Inv-loop μ-loop
 loop-less c = search needs
 
--- src/lib.rt:99:5
 loop-again : tie.Need-loop-again Inv-loop μ-loop
 loop-again c = search counting-on
 
--- src/lib.rt:94:1
 returns : tie.Need-returns Inv-loop μ-loop
 returns c = search counting-ends
 

@@ -4,23 +4,18 @@ use borrow.Author.Needs.{needs}
 use Rattle.listing.proofs.row.Statement.{statement}
 use Rattle.listing.proofs.row.Tie as tie
 
--- src/lib.rt:59:11
 sub-result : tie.Need-sub-result
 sub-result c = search needs
 
--- src/lib.rt:59:10
 cast-result : tie.Need-cast-result
 cast-result c = search needs
 
--- src/lib.rt:59:5
 mul-result : tie.Need-mul-result
 mul-result c = search needs
 
--- src/lib.rt:59:5
 array-copy-out-result : tie.Need-array-copy-out-result
 array-copy-out-result c = search needs
 
--- src/lib.rt:55:1
 returns : tie.Need-returns
 unfolding row-of rows
 returns c = search needs

@@ -4,19 +4,15 @@ use borrow.Author.Needs.{needs}
 use Rattle.listing.proofs.stores_with.Statement.{statement}
 use Rattle.listing.proofs.stores_with.Tie as tie
 
--- src/lib.rt:78:8
 is-store-requires : tie.Need-is-store-requires
 is-store-requires c κs = search needs
 
--- src/lib.rt:79:16
 add-result : tie.Need-add-result
 add-result c = search needs
 
--- src/lib.rt:79:9
 returns : tie.Need-returns
 returns c = search store-more
 
--- src/lib.rt:74:1
 returns-2 : tie.Need-returns-2
 returns-2 c = search store-none
 

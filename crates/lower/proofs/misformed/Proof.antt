@@ -1,24 +1,19 @@
+-- `misformed` hands up the table's refusal.
 use Rattle.lower.specs.Stages.{table-answer}
 use borrow.Author.Needs.{needs}
 use Rattle.lower.proofs.misformed.Statement.{statement}
 use Rattle.lower.proofs.misformed.Tie as tie
-use Rattle.lower.proofs.misformed.Reads as reads
-use Rattle.lower.proofs.misformed.Lts as lts
 
--- src/lib.rt:126:33
 enum-known-table : tie.Need-enum-known-table
 enum-known-table c = search needs
 
--- src/lib.rt:127:35
 enum-told : tie.Need-enum-told
 enum-told c = search needs
 
--- src/lib.rt:122:1
 returns : tie.Need-returns
 unfolding table-answer
 returns c = cc
 
--- src/lib.rt:122:1
 returns-2 : tie.Need-returns-2
 unfolding table-answer
 returns-2 c = cc

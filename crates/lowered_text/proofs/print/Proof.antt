@@ -4,37 +4,26 @@ use Rattle.lowered_text.proofs.Laws.{words-inside, text-few, page-print
 use borrow.Author.Needs.{needs}
 use Rattle.lowered_text.proofs.print.Statement.{statement}
 use Rattle.lowered_text.proofs.print.Tie as tie
-use Rattle.lowered_text.proofs.print.Reads as reads
-use Rattle.lowered_text.proofs.print.Lts as lts
-use Rattle.lower.proofs.lower.Reads as lower-reads
-use Rattle.text.proofs.text.Reads as text-reads
 
--- src/lib.rt:17:37
 slice-aggregate-lower : tie.Need-slice-aggregate-lower
 slice-aggregate-lower c = search needs
 
--- src/lib.rt:17:48
 slice-aggregate-lower-2 : tie.Need-slice-aggregate-lower-2
 slice-aggregate-lower-2 c = search needs
 
--- src/lib.rt:17:9
 lower-requires : tie.Need-lower-requires
 lower-requires c κs = search needs
 
--- src/lib.rt:18:24
 slice-aggregate-text : tie.Need-slice-aggregate-text
 slice-aggregate-text c = search needs
 
--- src/lib.rt:18:5
 text-requires : tie.Need-text-requires
 text-requires c κs =
     let l = c .before .before .before .before .lower in (words-inside (l .ensures) (search needs) (search needs), omega (arith, text-few (l .ensures) (search needs) (search needs)))
 
--- src/lib.rt:10:1
 same-length : tie.Need-same-length
 same-length c = search needs
 
--- src/lib.rt:10:1
 returns : tie.Need-returns
 returns c =
     let w = c .before .before .text in

@@ -4,44 +4,31 @@ use lib.Seq.{length-take-le}
 use borrow.Author.Needs.{needs}
 use Rattle.lowerings_shown.proofs.show.Statement.{statement}
 use Rattle.lowerings_shown.proofs.show.Tie as tie
-use Rattle.lowerings_shown.proofs.show.Reads as reads
-use Rattle.lowerings_shown.proofs.show.Lts as lts
-use Rattle.io.proofs.write_all.Reads as write-all-reads
-use Rattle.lowered_text.proofs.print.Reads as print-reads
 
--- src/main.rt:16:5
 write-all-requires : tie.Need-write-all-requires
 write-all-requires c κs = search needs
 
--- src/main.rt:17:22
 slice-aggregate-write-all : tie.Need-slice-aggregate-write-all
 slice-aggregate-write-all c = search needs
 
--- src/main.rt:17:5
 write-all-requires-2 : tie.Need-write-all-requires-2
 write-all-requires-2 c κs = search needs
 
--- src/main.rt:19:38
 slice-aggregate-print : tie.Need-slice-aggregate-print
 slice-aggregate-print c = search needs
 
--- src/main.rt:19:9
 print-requires : tie.Need-print-requires
 print-requires c κs = search needs
 
--- src/main.rt:20:22
 array-share-prefix-page : tie.Need-array-share-prefix-page
 array-share-prefix-page c = search needs
 
--- src/main.rt:20:22
 slice-aggregate-write-all-2 : tie.Need-slice-aggregate-write-all-2
 slice-aggregate-write-all-2 c = let p = c .before .before .print in sym (length-take-le (p .result) (p .last .1 .0) (p .ensures .1))
 
--- src/main.rt:20:5
 write-all-requires-3 : tie.Need-write-all-requires-3
 write-all-requires-3 c κs = search needs
 
--- src/main.rt:15:1
 returns : tie.Need-returns
 returns c = search needs
 

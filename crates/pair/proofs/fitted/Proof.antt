@@ -3,19 +3,13 @@ use borrow.Author.Needs.{needs}
 use Rattle.pair.proofs.Pairs.{fits-with, fits-not}
 use Rattle.pair.proofs.fitted.Statement.{statement}
 use Rattle.pair.proofs.fitted.Tie as tie
-use Rattle.pair.proofs.fitted.Reads as reads
-use Rattle.pair.proofs.fitted.Lts as lts
-use Rattle.pair.proofs.window_len.Reads as window-len-reads
 
--- src/lib.rt:60:9
 window-len-requires : tie.Need-window-len-requires
 window-len-requires c κs = search needs
 
--- src/lib.rt:62:9
 returns : tie.Need-returns
 returns c = search fits-with
 
--- src/lib.rt:56:1
 returns-2 : tie.Need-returns-2
 returns-2 c = search fits-not
 

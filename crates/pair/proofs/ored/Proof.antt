@@ -4,9 +4,6 @@ use Rattle.pair.proofs.Delays.{Oring, oring-begins, oring-on, oring-end
 use Prim.Native.Nat.{_-_}
 use Rattle.pair.proofs.ored.Statement.{statement}
 use Rattle.pair.proofs.ored.Tie as tie
-use Rattle.pair.proofs.ored.Reads as reads
-use Rattle.pair.proofs.ored.Lts as lts
-use Rattle.current.proofs.copied.Reads as copied-reads
 
 abbrev Inv-loop : tie.InvT-loop
 Inv-loop n d out₀ at p₀ k₀ out p k = Oring n d out₀ at out p k
@@ -14,43 +11,33 @@ Inv-loop n d out₀ at p₀ k₀ out p k = Oring n d out₀ at out p k
 abbrev μ-loop : tie.MeasureT-loop
 μ-loop n d out₀ at p₀ k₀ out p k = d - k
 
--- src/lib.rt:34:5
 loop-holds : tie.Need-loop-holds Inv-loop μ-loop
 loop-holds c = search oring-begins
 
--- src/lib.rt:35:52
 add-t9 : tie.Need-add-t9 Inv-loop μ-loop
 add-t9 c = search needs
 
--- src/lib.rt:35:31
 add-t10 : tie.Need-add-t10 Inv-loop μ-loop
 add-t10 c = search needs
 
--- src/lib.rt:35:29
 slice-aggregate-copied : tie.Need-slice-aggregate-copied Inv-loop μ-loop
 slice-aggregate-copied c = search needs
 
--- src/lib.rt:35:9
 copied-requires : tie.Need-copied-requires Inv-loop μ-loop
 copied-requires c κs = search needs
 
--- src/lib.rt:36:9
 add-k : tie.Need-add-k Inv-loop μ-loop
 add-k c = search needs
 
--- src/lib.rt:34:5
 loop-less : tie.Need-loop-less Inv-loop μ-loop
 loop-less c = search needs
 
--- src/lib.rt:34:5
 loop-again : tie.Need-loop-again Inv-loop μ-loop
 loop-again c = search oring-on
 
--- src/lib.rt:28:1
 same-length : tie.Need-same-length Inv-loop μ-loop
 same-length c = search needs
 
--- src/lib.rt:28:1
 returns : tie.Need-returns Inv-loop μ-loop
 returns c = search oring-ends
 

@@ -3,36 +3,25 @@ use borrow.Author.Needs.{needs}
 use Rattle.pair.proofs.Pairs.{skipped-registers, taken-registers-fit, taken-registers-low, taken-registers-are}
 use Rattle.pair.proofs.pair_registers.Statement.{statement}
 use Rattle.pair.proofs.pair_registers.Tie as tie
-use Rattle.pair.proofs.pair_registers.Reads as reads
-use Rattle.pair.proofs.pair_registers.Lts as lts
-use Rattle.pair.proofs.fitted.Reads as fitted-reads
-use Rattle.pair.proofs.registers_of.Reads as registers-of-reads
 
--- src/lib.rt:141:9
 fitted-requires : tie.Need-fitted-requires
 fitted-requires c κs = search needs
 
--- src/lib.rt:142:21
 enum-known-f : tie.Need-enum-known-f
 enum-known-f c = search needs
 
--- src/lib.rt:143:9
 enum-told : tie.Need-enum-told
 enum-told c = search needs
 
--- src/lib.rt:143:9
 returns : tie.Need-returns
 returns c = (search skipped-registers, search needs)
 
--- src/lib.rt:145:9
 registers-of-requires : tie.Need-registers-of-requires
 registers-of-requires c κs = search needs
 
--- src/lib.rt:146:5
 add-result : tie.Need-add-result
 add-result c = search taken-registers-fit
 
--- src/lib.rt:136:1
 returns-2 : tie.Need-returns-2
 returns-2 c = (search taken-registers-are, search taken-registers-low)
 

@@ -3,58 +3,40 @@ use borrow.Author.Needs.{needs}
 use Rattle.pair.proofs.Pairs.{skipped-stores, own-fits, next-register-fits, own-registers-small, own-stores-room, further-fits, further-small, slide-stores-room, pair-stores-done}
 use Rattle.pair.proofs.pair_stores.Statement.{statement}
 use Rattle.pair.proofs.pair_stores.Tie as tie
-use Rattle.pair.proofs.pair_stores.Reads as reads
-use Rattle.pair.proofs.pair_stores.Lts as lts
-use Rattle.pair.proofs.fitted.Reads as fitted-reads
-use Rattle.pair.proofs.registers_of.Reads as registers-of-reads
-use Rattle.pair.proofs.slide_stores.Reads as slide-stores-reads
-use Rattle.pair.proofs.stores_of.Reads as stores-of-reads
 
--- src/lib.rt:154:9
 fitted-requires : tie.Need-fitted-requires
 fitted-requires c κs = search needs
 
--- src/lib.rt:155:21
 enum-known-f : tie.Need-enum-known-f
 enum-known-f c = search needs
 
--- src/lib.rt:156:9
 enum-told : tie.Need-enum-told
 enum-told c = search needs
 
--- src/lib.rt:156:9
 returns : tie.Need-returns
 returns c = search skipped-stores
 
--- src/lib.rt:158:17
 registers-of-requires : tie.Need-registers-of-requires
 registers-of-requires c κs = search needs
 
--- src/lib.rt:158:17
 cast-r : tie.Need-cast-r
 cast-r c = search own-fits
 
--- src/lib.rt:158:13
 add-r : tie.Need-add-r
 add-r c = search next-register-fits
 
--- src/lib.rt:159:9
 stores-of-requires : tie.Need-stores-of-requires
 stores-of-requires c κs = (search needs, search own-registers-small, search own-stores-room)
 
--- src/lib.rt:160:29
 cast-slide-stores : tie.Need-cast-slide-stores
 cast-slide-stores c = search further-fits
 
--- src/lib.rt:160:5
 slide-stores-requires : tie.Need-slide-stores-requires
 slide-stores-requires c κs = (search needs, search own-registers-small, search further-small, search slide-stores-room)
 
--- src/lib.rt:150:1
 same-length : tie.Need-same-length
 same-length c = search needs
 
--- src/lib.rt:150:1
 returns-2 : tie.Need-returns-2
 returns-2 c = search pair-stores-done
 

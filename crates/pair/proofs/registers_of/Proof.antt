@@ -3,15 +3,10 @@ use borrow.Author.Needs.{needs}
 use Rattle.pair.proofs.Alternatives.{registers-counted}
 use Rattle.pair.proofs.registers_of.Statement.{statement}
 use Rattle.pair.proofs.registers_of.Tie as tie
-use Rattle.pair.proofs.registers_of.Reads as reads
-use Rattle.pair.proofs.registers_of.Lts as lts
-use Rattle.pipeline.proofs.registers.Reads as registers-reads
 
--- src/lib.rt:57:5
 registers-requires : tie.Need-registers-requires
 registers-requires c κs = search needs
 
--- src/lib.rt:52:1
 returns : tie.Need-returns
 returns c = (search registers-counted, search needs)
 

@@ -1,45 +1,38 @@
 -- `slide_stores` writes the text once, then one register after the other.
 use borrow.Author.Needs.{needs}
-use Rattle.pair.proofs.Pairs.{no-delays, delayed-room, delay-store-room, later-delays-room, delays-done}
+use Rattle.pipeline.proofs.Laws.{no-delays, fixed-text-room, fixed-store-room, fixed-rest-room, fixed-done}
 use Rattle.pair.proofs.slide_stores.Statement.{statement}
 use Rattle.pair.proofs.slide_stores.Tie as tie
-use Rattle.pair.proofs.slide_stores.Reads as reads
-use Rattle.pair.proofs.slide_stores.Lts as lts
-use Rattle.pair.proofs.later_delays.Reads as later-delays-reads
-use Rattle.pair.proofs.text_of.Reads as text-of-reads
-use Rattle.words.proofs.put.Reads as put-reads
 
--- src/lib.rt:86:9
 returns : tie.Need-returns
 returns c = search no-delays
 
--- src/lib.rt:88:9
 text-of-requires : tie.Need-text-of-requires
-text-of-requires c κs = (search needs, search needs, search delayed-room)
+text-of-requires c κs = (search needs, search needs, search fixed-text-room)
 
--- src/lib.rt:89:32
 add-put : tie.Need-add-put
 add-put c = search needs
 
--- src/lib.rt:89:9
 put-requires : tie.Need-put-requires
-put-requires c κs = search delay-store-room
+put-requires c κs = search fixed-store-room
 
--- src/lib.rt:90:21
-sub-later-delays : tie.Need-sub-later-delays
-sub-later-delays c = search needs
+slice-aggregate-delays : tie.Need-slice-aggregate-delays
+slice-aggregate-delays c = search needs
 
--- src/lib.rt:90:5
-later-delays-requires : tie.Need-later-delays-requires
-later-delays-requires c κs = (search needs, search later-delays-room)
+add-delays : tie.Need-add-delays
+add-delays c = search needs
 
--- src/lib.rt:81:1
+sub-delays : tie.Need-sub-delays
+sub-delays c = search needs
+
+delays-requires : tie.Need-delays-requires
+delays-requires c κs = (search needs, search needs, search fixed-rest-room)
+
 same-length : tie.Need-same-length
 same-length c = search needs
 
--- src/lib.rt:81:1
 returns-2 : tie.Need-returns-2
-returns-2 c = search delays-done
+returns-2 c = search fixed-done
 
 pub slide-stores-spec : {M : Type 1} → statement M
 slide-stores-spec =
@@ -49,7 +42,9 @@ slide-stores-spec =
     text-of-requires
     add-put
     put-requires
-    sub-later-delays
-    later-delays-requires
+    slice-aggregate-delays
+    add-delays
+    sub-delays
+    delays-requires
     same-length
     returns-2)

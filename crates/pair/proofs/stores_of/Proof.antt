@@ -3,23 +3,16 @@ use borrow.Author.Needs.{needs}
 use Rattle.pair.proofs.Alternatives.{stores-ready, stores-room, stores-written}
 use Rattle.pair.proofs.stores_of.Statement.{statement}
 use Rattle.pair.proofs.stores_of.Tie as tie
-use Rattle.pair.proofs.stores_of.Reads as reads
-use Rattle.pair.proofs.stores_of.Lts as lts
-use Rattle.pipeline.proofs.stores.Reads as stores-reads
 
--- src/lib.rt:81:29
 slice-aggregate-stores : tie.Need-slice-aggregate-stores
 slice-aggregate-stores c = search needs
 
--- src/lib.rt:81:5
 stores-requires : tie.Need-stores-requires
 stores-requires c κs = (search stores-ready, search stores-room)
 
--- src/lib.rt:77:1
 same-length : tie.Need-same-length
 same-length c = search needs
 
--- src/lib.rt:77:1
 returns : tie.Need-returns
 returns c = search stores-written
 

@@ -3,40 +3,28 @@ use borrow.Author.Needs.{needs}
 use Rattle.pair.proofs.Alternatives.{text-before-fits, text-register-fits, text-ready, text-room, text-written}
 use Rattle.pair.proofs.text_of.Statement.{statement}
 use Rattle.pair.proofs.text_of.Tie as tie
-use Rattle.pair.proofs.text_of.Reads as reads
-use Rattle.pair.proofs.text_of.Lts as lts
-use Rattle.current.proofs.current.Reads as current-reads
-use Rattle.pipeline.proofs.registers.Reads as registers-reads
 
--- src/lib.rt:73:13
 sub-j : tie.Need-sub-j
 sub-j c = search needs
 
--- src/lib.rt:74:17
 registers-requires : tie.Need-registers-requires
 registers-requires c κs = search needs
 
--- src/lib.rt:74:17
 cast-r : tie.Need-cast-r
 cast-r c = search text-before-fits
 
--- src/lib.rt:74:13
 add-r : tie.Need-add-r
 add-r c = search text-register-fits
 
--- src/lib.rt:75:29
 slice-aggregate-current : tie.Need-slice-aggregate-current
 slice-aggregate-current c = search needs
 
--- src/lib.rt:75:5
 current-requires : tie.Need-current-requires
 current-requires c κs = (search text-ready, search text-room)
 
--- src/lib.rt:69:1
 same-length : tie.Need-same-length
 same-length c = search needs
 
--- src/lib.rt:69:1
 returns : tie.Need-returns
 returns c = search text-written
 

@@ -1,3 +1,4 @@
+-- `at_least` puts the latch alone, or behind its delays.
 use Rattle.pipeline.proofs.Laws.{latch-room, latch-done, late-room, late-done, latch-small, late-small}
 use borrow.Author.Needs.{needs}
 use Rattle.pipeline.proofs.at_least.Statement.{statement}

@@ -1,3 +1,4 @@
+-- `delay` puts the register before, the guard and the store.
 use Rattle.fsm.proofs.Laws.{after-one}
 use borrow.Author.Needs.{needs}
 use Rattle.pipeline.proofs.delay.Statement.{statement}

@@ -1,3 +1,4 @@
+-- `delays` puts one delay after the other; what is left of them is said in `Delaying`.
 use Prim.Native.Nat.{_-_}
 use borrow.Author.Needs.{needs}
 use Rattle.pipeline.proofs.Laws.{Delaying, delaying-begins, delaying-room, delaying-on, delaying-ends}

@@ -1,3 +1,4 @@
+-- `empties_fit` looks at hop after hop up to one that does not fit; what is left of them is said in `Fitting`.
 use Prim.Native.Nat.{_-_}
 use borrow.Author.Needs.{needs}
 use Rattle.pipeline.proofs.Fit.{Fitting, fitting-begins, fitting-on, fitting-fails, fitting-ends}

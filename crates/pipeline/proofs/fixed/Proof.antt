@@ -1,3 +1,4 @@
+-- `fixed` puts the text before, its store and the other delays.
 use Rattle.pipeline.proofs.Laws.{no-delays, fixed-text-room, fixed-store-room, fixed-rest-room, fixed-done}
 use borrow.Author.Needs.{needs}
 use Rattle.pipeline.proofs.fixed.Statement.{statement}

@@ -1,3 +1,4 @@
+-- `fixed_from_one` tests the ticks of a fixed hop.
 use Rattle.pipeline.proofs.Fit.{fixed-positive}
 use borrow.Author.Needs.{needs}
 use Rattle.pipeline.proofs.fixed_from_one.Statement.{statement}

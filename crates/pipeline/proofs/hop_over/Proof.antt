@@ -1,5 +1,6 @@
-use Rattle.current.specs.Text.{hopRegisters}
-use Rattle.pipeline.specs.Stores.{hopStores}
+-- `hop_over` puts the stores of a hop, variant by variant.
+use Rattle.current.specs.Text.{hop-registers}
+use Rattle.pipeline.specs.Stores.{hop-store-words}
 use Rattle.pipeline.proofs.Laws.{hop-in, hop-room, hop-variant}
 use borrow.Author.Needs.{needs}
 use Rattle.pipeline.proofs.hop_over.Statement.{statement}
@@ -9,7 +10,7 @@ enum-known-h : tie.Need-enum-known-h
 enum-known-h c = search needs
 
 fixed-requires : tie.Need-fixed-requires
-unfolding hopStores hopRegisters
+unfolding hop-store-words hop-registers
 fixed-requires c κs = (search needs, search needs, search hop-variant, search hop-room)
 
 enum-known-h-2 : tie.Need-enum-known-h-2
@@ -22,7 +23,7 @@ same-length : tie.Need-same-length
 same-length c = search needs
 
 returns : tie.Need-returns
-unfolding hopStores
+unfolding hop-store-words
 returns c = search hop-in
 
 same-length-2 : tie.Need-same-length-2

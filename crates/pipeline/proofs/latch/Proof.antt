@@ -1,3 +1,4 @@
+-- `latch` puts the latch around the text before.
 use Rattle.fsm.proofs.Laws.{after-one}
 use borrow.Author.Needs.{needs}
 use Rattle.pipeline.proofs.latch.Statement.{statement}

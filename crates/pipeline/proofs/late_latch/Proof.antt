@@ -1,3 +1,4 @@
+-- `late_latch` puts the delays, then the latch over the last two registers.
 use Rattle.fsm.proofs.Laws.{before-words}
 use borrow.Author.Needs.{needs}
 use Rattle.pipeline.proofs.late_latch.Statement.{statement}

@@ -1,3 +1,4 @@
+-- `later` puts the stores of the hop, then those of the term.
 use Rattle.pipeline.proofs.Laws.{later-small, later-atom, later-hop-small, later-term-small, later-hop-room, later-term-room, later-done}
 use borrow.Author.Needs.{needs}
 use Rattle.pipeline.proofs.later.Statement.{statement}

@@ -1,3 +1,4 @@
+-- `laters` puts the stores of step after step; what is left of them is said in `Storing`.
 use Prim.Native.Nat.{_-_}
 use borrow.Author.Needs.{needs}
 use Rattle.pipeline.proofs.Laws.{Storing, first-inside, first-high, storing-begins, storing-inside, storing-many, storing-high, storing-ready, storing-later, storing-room, storing-on, storing-ends}

@@ -1,3 +1,4 @@
+-- `registers` adds the registers of step after step; what is left of them is said in `Summing`.
 use Prim.Native.Nat.{_-_}
 use borrow.Author.Needs.{needs}
 use Rattle.pipeline.proofs.Fit.{Summing, summing-begins, summing-on, summing-ends, summing-small}

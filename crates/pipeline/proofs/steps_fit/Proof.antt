@@ -1,3 +1,4 @@
+-- `steps_fit` looks at the first term, then at the hops.
 use Rattle.pipeline.proofs.Fit.{lead-misplaced, lead-fits}
 use borrow.Author.Needs.{needs}
 use Rattle.pipeline.proofs.steps_fit.Statement.{statement}

@@ -1,3 +1,4 @@
+-- `stores` puts the first term's stores, then those of the later steps.
 use Rattle.pipeline.proofs.Laws.{seed-ready, seed-atom, seed-small, seed-room, laters-room, stores-done}
 use borrow.Author.Needs.{needs}
 use Rattle.pipeline.proofs.stores.Statement.{statement}

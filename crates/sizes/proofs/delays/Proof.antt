@@ -1,4 +1,5 @@
-use Rattle.sizes.specs.Sizes.{delaysSize}
+-- `delays` makes the one test of `delays-size`, and finds that the sum fits.
+use Rattle.sizes.specs.Sizes.{delays-size}
 use Rattle.sizes.proofs.Laws.{others-fit, delays-fit}
 use borrow.Author.Needs.{needs}
 use Rattle.sizes.proofs.delays.Statement.{statement}
@@ -23,7 +24,7 @@ either-requires : tie.Need-either-requires
 either-requires c κs = search needs
 
 returns : tie.Need-returns
-unfolding delaysSize
+unfolding delays-size
 returns c = cc
 
 pub delays-spec : {M : Type 1} → statement M

@@ -1,3 +1,4 @@
+-- `either` is `pick` on numbers.
 use Rattle.words.specs.Choice.{tests}
 use Rattle.sizes.proofs.either.Statement.{statement}
 use Rattle.sizes.proofs.either.Tie as tie

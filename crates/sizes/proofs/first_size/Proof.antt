@@ -1,4 +1,5 @@
-use Rattle.sizes.specs.Sizes.{firstSize}
+-- `first_size` adds the guard's words to those of the first term.
+use Rattle.sizes.specs.Sizes.{first-size}
 use Rattle.sizes.proofs.Laws.{lead-fits}
 use borrow.Author.Needs.{needs}
 use Rattle.sizes.proofs.first_size.Statement.{statement}
@@ -14,7 +15,7 @@ term-stores-requires : tie.Need-term-stores-requires
 term-stores-requires c κs = search needs
 
 returns : tie.Need-returns
-unfolding firstSize
+unfolding first-size
 returns c = cc
 
 pub first-size-spec : {M : Type 1} → statement M

@@ -1,4 +1,5 @@
-use Rattle.sizes.specs.Sizes.{gotoSize}
+-- `goto_size` makes the one test of `goto-size`, and finds that the sum fits.
+use Rattle.sizes.specs.Sizes.{goto-size}
 use borrow.Author.Needs.{needs}
 use Rattle.sizes.proofs.goto_size.Statement.{statement}
 use Rattle.sizes.proofs.goto_size.Tie as tie
@@ -28,7 +29,7 @@ either-requires : tie.Need-either-requires
 either-requires c κs = search needs
 
 returns : tie.Need-returns
-unfolding gotoSize
+unfolding goto-size
 returns c = cc
 
 pub goto-size-spec : {M : Type 1} → statement M

@@ -1,5 +1,6 @@
-use Rattle.sizes.specs.Sizes.{hopStoresSize}
-use Rattle.current.specs.Text.{hopRegisters}
+-- `hop_stores` counts the stores of a hop, variant by variant.
+use Rattle.sizes.specs.Sizes.{hop-stores-size}
+use Rattle.current.specs.Text.{hop-registers}
 use Rattle.sizes.proofs.Laws.{hop-variant, late-variant, late-fits}
 use borrow.Author.Needs.{needs}
 use Rattle.sizes.proofs.hop_stores.Statement.{statement}
@@ -12,7 +13,7 @@ cast-delays : tie.Need-cast-delays
 cast-delays c = search needs
 
 delays-requires : tie.Need-delays-requires
-unfolding hopRegisters
+unfolding hop-registers
 delays-requires c κs = (search needs, search hop-variant, search needs)
 
 enum-known-h-2 : tie.Need-enum-known-h-2
@@ -25,25 +26,25 @@ less-requires : tie.Need-less-requires
 less-requires c κs = search needs
 
 delays-requires-2 : tie.Need-delays-requires-2
-unfolding hopRegisters
+unfolding hop-registers
 delays-requires-2 c κs = (search needs, search late-variant, search needs)
 
 add-either : tie.Need-add-either
 add-either c = search needs
 
 add-either-2 : tie.Need-add-either-2
-unfolding hopRegisters
+unfolding hop-registers
 add-either-2 c = search (late-fits, late-variant)
 
 either-requires : tie.Need-either-requires
 either-requires c κs = search needs
 
 returns : tie.Need-returns
-unfolding hopStoresSize
+unfolding hop-stores-size
 returns c = cc
 
 returns-2 : tie.Need-returns-2
-unfolding hopStoresSize
+unfolding hop-stores-size
 returns-2 c = cc
 
 pub hop-stores-spec : {M : Type 1} → statement M

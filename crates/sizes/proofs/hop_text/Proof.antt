@@ -1,4 +1,5 @@
-use Rattle.sizes.specs.Sizes.{hopTextSize}
+-- `hop_text` counts the text after a hop, variant by variant.
+use Rattle.sizes.specs.Sizes.{hop-text-size}
 use borrow.Author.Needs.{needs}
 use Rattle.sizes.proofs.hop_text.Statement.{statement}
 use Rattle.sizes.proofs.hop_text.Tie as tie
@@ -22,11 +23,11 @@ either-requires-2 : tie.Need-either-requires-2
 either-requires-2 c κs = search needs
 
 returns : tie.Need-returns
-unfolding hopTextSize
+unfolding hop-text-size
 returns c = cc
 
 returns-2 : tie.Need-returns-2
-unfolding hopTextSize
+unfolding hop-text-size
 returns-2 c = cc
 
 pub hop-text-spec : {M : Type 1} → statement M

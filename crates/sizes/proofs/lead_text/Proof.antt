@@ -1,4 +1,5 @@
-use Rattle.sizes.specs.Sizes.{leadTextSize}
+-- `lead_text` counts the text after the first term, variant by variant.
+use Rattle.sizes.specs.Sizes.{lead-text-size}
 use borrow.Author.Needs.{needs}
 use Rattle.sizes.proofs.lead_text.Statement.{statement}
 use Rattle.sizes.proofs.lead_text.Tie as tie
@@ -28,23 +29,23 @@ enum-told-5 : tie.Need-enum-told-5
 enum-told-5 c = search needs
 
 returns : tie.Need-returns
-unfolding leadTextSize
+unfolding lead-text-size
 returns c = cc
 
 returns-2 : tie.Need-returns-2
-unfolding leadTextSize
+unfolding lead-text-size
 returns-2 c = cc
 
 returns-3 : tie.Need-returns-3
-unfolding leadTextSize
+unfolding lead-text-size
 returns-3 c = cc
 
 returns-4 : tie.Need-returns-4
-unfolding leadTextSize
+unfolding lead-text-size
 returns-4 c = cc
 
 returns-5 : tie.Need-returns-5
-unfolding leadTextSize
+unfolding lead-text-size
 returns-5 c = cc
 
 pub lead-text-spec : {M : Type 1} → statement M

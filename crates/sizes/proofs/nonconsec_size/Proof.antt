@@ -1,3 +1,4 @@
+-- `nonconsec_size` adds the extension to the goto's stores.
 use Rattle.sizes.proofs.Laws.{nonconsec-fits, nonconsec-one-fits}
 use borrow.Author.Needs.{needs}
 use Rattle.sizes.proofs.nonconsec_size.Statement.{statement}

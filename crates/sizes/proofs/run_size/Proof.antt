@@ -1,4 +1,5 @@
-use Rattle.sizes.specs.Sizes.{runSize}
+-- `run_size` makes the one test of `run-size`, and finds that the sum fits.
+use Rattle.sizes.specs.Sizes.{run-size}
 use borrow.Author.Needs.{needs}
 use Rattle.sizes.proofs.run_size.Statement.{statement}
 use Rattle.sizes.proofs.run_size.Tie as tie
@@ -25,7 +26,7 @@ either-requires : tie.Need-either-requires
 either-requires c κs = search needs
 
 returns : tie.Need-returns
-unfolding runSize
+unfolding run-size
 returns c = cc
 
 pub run-size-spec : {M : Type 1} → statement M

@@ -1,3 +1,4 @@
+-- `sizes` counts step after step; what is left of them is said in `Sizing`.
 use Prim.Native.Nat.{_-_}
 use borrow.Author.Needs.{needs}
 use Rattle.sizes.proofs.Laws.{Sizing, first-inside, guard-short, sizing-begins, sizing-inside, sizing-many, sizing-guard, sizing-text, sizing-stores, sizing-registers, sizing-on, sizing-ends}

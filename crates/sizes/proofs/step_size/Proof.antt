@@ -1,4 +1,5 @@
-use Rattle.sizes.specs.Sizes.{stepSize}
+-- `step_size` adds the stores of a hop and of its term to those before.
+use Rattle.sizes.specs.Sizes.{step-size}
 use Rattle.sizes.proofs.Laws.{step-hop-small, activation-small, own-fits, stores-fit}
 use borrow.Author.Needs.{needs}
 use Rattle.sizes.proofs.step_size.Statement.{statement}
@@ -26,7 +27,7 @@ add-t9 : tie.Need-add-t9
 add-t9 c = search stores-fit
 
 returns : tie.Need-returns
-unfolding stepSize
+unfolding step-size
 returns c = cc
 
 pub step-size-spec : {M : Type 1} → statement M

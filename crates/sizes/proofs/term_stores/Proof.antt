@@ -1,4 +1,5 @@
-use Rattle.sizes.specs.Sizes.{termStoresSize}
+-- `term_stores` counts the stores of a term, variant by variant.
+use Rattle.sizes.specs.Sizes.{term-stores-size}
 use borrow.Author.Needs.{needs}
 use Rattle.sizes.proofs.term_stores.Statement.{statement}
 use Rattle.sizes.proofs.term_stores.Tie as tie
@@ -37,23 +38,23 @@ enum-told-2 : tie.Need-enum-told-2
 enum-told-2 c = search needs
 
 returns : tie.Need-returns
-unfolding termStoresSize
+unfolding term-stores-size
 returns c = cc
 
 returns-2 : tie.Need-returns-2
-unfolding termStoresSize
+unfolding term-stores-size
 returns-2 c = cc
 
 returns-3 : tie.Need-returns-3
-unfolding termStoresSize
+unfolding term-stores-size
 returns-3 c = cc
 
 returns-4 : tie.Need-returns-4
-unfolding termStoresSize
+unfolding term-stores-size
 returns-4 c = cc
 
 returns-5 : tie.Need-returns-5
-unfolding termStoresSize
+unfolding term-stores-size
 returns-5 c = cc
 
 pub term-stores-spec : {M : Type 1} → statement M

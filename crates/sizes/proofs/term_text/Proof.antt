@@ -1,4 +1,5 @@
-use Rattle.sizes.specs.Sizes.{termTextSize}
+-- `term_text` counts the text after a term, variant by variant.
+use Rattle.sizes.specs.Sizes.{term-text-size}
 use borrow.Author.Needs.{needs}
 use Rattle.sizes.proofs.term_text.Statement.{statement}
 use Rattle.sizes.proofs.term_text.Tie as tie
@@ -40,23 +41,23 @@ enum-told-2 : tie.Need-enum-told-2
 enum-told-2 c = search needs
 
 returns : tie.Need-returns
-unfolding termTextSize
+unfolding term-text-size
 returns c = cc
 
 returns-2 : tie.Need-returns-2
-unfolding termTextSize
+unfolding term-text-size
 returns-2 c = cc
 
 returns-3 : tie.Need-returns-3
-unfolding termTextSize
+unfolding term-text-size
 returns-3 c = cc
 
 returns-4 : tie.Need-returns-4
-unfolding termTextSize
+unfolding term-text-size
 returns-4 c = cc
 
 returns-5 : tie.Need-returns-5
-unfolding termTextSize
+unfolding term-text-size
 returns-5 c = cc
 
 pub term-text-spec : {M : Type 1} → statement M

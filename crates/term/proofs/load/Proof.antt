@@ -1,4 +1,5 @@
-use Rattle.term.specs.Steps.{stepAt}
+-- `load` reads the five words of a step.
+use Rattle.term.specs.Steps.{step-at}
 use borrow.Author.Needs.{needs}
 use Rattle.term.proofs.load.Statement.{statement}
 use Rattle.term.proofs.load.Tie as tie
@@ -52,7 +53,7 @@ hop-from-requires : tie.Need-hop-from-requires
 hop-from-requires c κs = search needs
 
 returns : tie.Need-returns
-unfolding stepAt
+unfolding step-at
 returns c = cc
 
 pub load-spec : {M : Type 1} → statement M

@@ -1,5 +1,6 @@
+-- `store` puts the five words of a step, one after the other.
 use Rattle.words.proofs.Laws.{begin, go-word, done}
-use Rattle.term.specs.Steps.{stepWords}
+use Rattle.term.specs.Steps.{step-words}
 use borrow.Author.Needs.{needs}
 use Rattle.term.proofs.store.Statement.{statement}
 use Rattle.term.proofs.store.Tie as tie
@@ -38,7 +39,7 @@ same-length : tie.Need-same-length
 same-length c = search needs
 
 returns : tie.Need-returns
-unfolding stepWords
+unfolding step-words
 returns c =
     let w₅ = c .before .before in
     let w₄ = w₅ .before .before .before .before .before in

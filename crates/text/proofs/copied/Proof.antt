@@ -2,7 +2,7 @@
 use borrow.Author.Needs.{needs}
 use Prim.Native.Nat.{_-_}
 use lib.ListN.{length}
-use Rattle.text.proofs.Laws.{Copying, copying-begins, copying-on, copying-ends}
+use Rattle.words.proofs.Laws.{Copying, copying-begins, copying-on, copying-ends}
 use Rattle.text.proofs.copied.Statement.{statement}
 use Rattle.text.proofs.copied.Tie as tie
 

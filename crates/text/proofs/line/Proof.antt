@@ -1,7 +1,7 @@
 -- What stands before the tokens, the tokens, the line's end.
 use native.Mathlib.Omega.{arith}
 use Rattle.text.specs.Text.{line-text}
-use Rattle.text.proofs.Laws.{three-parts}
+use Rattle.words.proofs.Laws.{three-parts}
 use Rattle.text.proofs.ListingLines.{line-start-end, tokens-end}
 use borrow.Author.Needs.{needs}
 use Rattle.text.proofs.line.Statement.{statement}

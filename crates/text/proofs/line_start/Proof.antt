@@ -1,7 +1,8 @@
 -- The match, or tag, register and the sign behind them.
 use native.Mathlib.Omega.{arith}
 use Rattle.text.specs.Text.{line-start-text}
-use Rattle.text.proofs.Laws.{byte-then-number-end, chosen, three-parts}
+use Rattle.words.proofs.Laws.{three-parts}
+use Rattle.text.proofs.Laws.{byte-then-number-end, chosen}
 use Rattle.text.proofs.ListingLines.{tag-end}
 use borrow.Author.Needs.{needs}
 use Rattle.text.proofs.line_start.Statement.{statement}

@@ -12,31 +12,24 @@ Inv-loop bytes highest₀ i₀ highest i = Highest bytes highest i
 abbrev μ-loop : tie.MeasureT-loop
 μ-loop bytes highest₀ i₀ highest i = length bytes - i
 
--- src/lib.rt:287:5
 loop-holds : tie.Need-loop-holds Inv-loop μ-loop
 loop-holds c = search highest-begins
 
--- src/lib.rt:288:35
 shared-slice-read-either : tie.Need-shared-slice-read-either Inv-loop μ-loop
 shared-slice-read-either c = search needs
 
--- src/lib.rt:288:9
 either-requires : tie.Need-either-requires Inv-loop μ-loop
 either-requires c κs = search needs
 
--- src/lib.rt:289:9
 add-i : tie.Need-add-i Inv-loop μ-loop
 add-i c = search needs
 
--- src/lib.rt:287:5
 loop-less : tie.Need-loop-less Inv-loop μ-loop
 loop-less c = search needs
 
--- src/lib.rt:287:5
 loop-again : tie.Need-loop-again Inv-loop μ-loop
 loop-again c = search highest-on
 
--- src/lib.rt:282:1
 returns : tie.Need-returns Inv-loop μ-loop
 returns c = search highest-decides
 

@@ -4,19 +4,15 @@ use borrow.Author.Needs.{needs}
 use Rattle.tick.proofs.bits_with.Statement.{statement}
 use Rattle.tick.proofs.bits_with.Tie as tie
 
--- src/lib.rt:76:16
 shared-slice-read-if2 : tie.Need-shared-slice-read-if2
 shared-slice-read-if2 c = search needs
 
--- src/lib.rt:77:13
 returns : tie.Need-returns
 returns c = search above-one
 
--- src/lib.rt:72:1
 returns-2 : tie.Need-returns-2
 returns-2 c = search a-bit
 
--- src/lib.rt:72:1
 returns-3 : tie.Need-returns-3
 returns-3 c = search not-lent
 

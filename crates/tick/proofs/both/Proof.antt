@@ -1,14 +1,11 @@
 -- The AND of two bits is their product.
-use borrow.Author.Needs.{needs}
 use Rattle.tick.proofs.AppliedWord.{and-zero, and-one}
 use Rattle.tick.proofs.both.Statement.{statement}
 use Rattle.tick.proofs.both.Tie as tie
 
--- src/lib.rt:276:9
 returns : tie.Need-returns
 returns c = search and-zero
 
--- src/lib.rt:271:1
 returns-2 : tie.Need-returns-2
 returns-2 c = search and-one
 

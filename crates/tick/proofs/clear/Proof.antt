@@ -12,31 +12,24 @@ Inv-loop stack₀ i₀ stack i = Clearing stack₀ stack i
 abbrev μ-loop : tie.MeasureT-loop
 μ-loop stack₀ i₀ stack i = length stack₀ - i
 
--- src/lib.rt:370:5
 loop-holds : tie.Need-loop-holds Inv-loop μ-loop
 loop-holds c = search clearing-begins
 
--- src/lib.rt:371:9
 slice-write-stack : tie.Need-slice-write-stack Inv-loop μ-loop
 slice-write-stack c = search needs
 
--- src/lib.rt:372:9
 add-i : tie.Need-add-i Inv-loop μ-loop
 add-i c = search needs
 
--- src/lib.rt:370:5
 loop-less : tie.Need-loop-less Inv-loop μ-loop
 loop-less c = search needs
 
--- src/lib.rt:370:5
 loop-again : tie.Need-loop-again Inv-loop μ-loop
 loop-again c = search clearing-on
 
--- src/lib.rt:366:1
 same-length : tie.Need-same-length Inv-loop μ-loop
 same-length c = search needs
 
--- src/lib.rt:366:1
 returns : tie.Need-returns Inv-loop μ-loop
 returns c = search clearing-ends
 

@@ -12,71 +12,54 @@ Inv-loop listing cur atoms next₀ stack₀ stores₀ height₀ i₀ next stack 
 abbrev μ-loop : tie.MeasureT-loop
 μ-loop listing cur atoms next₀ stack₀ stores₀ height₀ i₀ next stack stores height i = length listing - i
 
--- src/lib.rt:355:5
 loop-holds : tie.Need-loop-holds Inv-loop μ-loop
 loop-holds c = search evaluating-begins
 
--- src/lib.rt:356:17
 mul-w : tie.Need-mul-w Inv-loop μ-loop
 mul-w c = search needs
 
--- src/lib.rt:356:17
 shared-slice-read-w : tie.Need-shared-slice-read-w Inv-loop μ-loop
 shared-slice-read-w c = search needs
 
--- src/lib.rt:357:21
 add-place : tie.Need-add-place Inv-loop μ-loop
 add-place c = search needs
 
--- src/lib.rt:360:13
 apply-requires : tie.Need-apply-requires Inv-loop μ-loop
 apply-requires c κs = search applicable
 
--- src/lib.rt:362:23
 slice-read-bit : tie.Need-slice-read-bit Inv-loop μ-loop
 slice-read-bit c = search value-there
 
--- src/lib.rt:364:17
 same-length : tie.Need-same-length Inv-loop μ-loop
 same-length c = search needs
 
--- src/lib.rt:364:17
 same-length-2 : tie.Need-same-length-2 Inv-loop μ-loop
 same-length-2 c = search needs
 
--- src/lib.rt:364:17
 returns : tie.Need-returns Inv-loop μ-loop
 returns c = search evaluated-there
 
--- src/lib.rt:366:13
 store-requires : tie.Need-store-requires Inv-loop μ-loop
 store-requires c κs = search room-for-store
 
--- src/lib.rt:355:5
 loop-less : tie.Need-loop-less Inv-loop μ-loop
 loop-less c = search needs
 
--- src/lib.rt:355:5
 loop-again : tie.Need-loop-again Inv-loop μ-loop
 loop-again c = search evaluating-on
 
--- src/lib.rt:355:5
 loop-less-2 : tie.Need-loop-less-2 Inv-loop μ-loop
 loop-less-2 c = search needs
 
--- src/lib.rt:355:5
 loop-again-2 : tie.Need-loop-again-2 Inv-loop μ-loop
 loop-again-2 c = search evaluating-stored
 
--- src/lib.rt:348:1
 same-length-3 : tie.Need-same-length-3 Inv-loop μ-loop
 same-length-3 c = search needs
 
--- src/lib.rt:348:1
 same-length-4 : tie.Need-same-length-4 Inv-loop μ-loop
 same-length-4 c = search needs
 
--- src/lib.rt:348:1
 returns-2 : tie.Need-returns-2 Inv-loop μ-loop
 returns-2 c = search never-past
 

@@ -1,26 +1,21 @@
 -- The tests of 22, in the order of the definition.
-use borrow.Author.Needs.{needs}
 use Rattle.words.specs.Choice.{tests}
 use Rattle.tick.specs.Survey.{lacking}
 use Rattle.tick.proofs.lacks.Statement.{statement}
 use Rattle.tick.proofs.lacks.Tie as tie
 
--- src/lib.rt:381:9
 returns : tie.Need-returns
 unfolding lacking
 returns c = search tests depth 9
 
--- src/lib.rt:384:9
 returns-2 : tie.Need-returns-2
 unfolding lacking
 returns-2 c = search tests depth 9
 
--- src/lib.rt:387:9
 returns-3 : tie.Need-returns-3
 unfolding lacking
 returns-3 c = search tests depth 9
 
--- src/lib.rt:377:1
 returns-4 : tie.Need-returns-4
 unfolding lacking
 returns-4 c = search tests depth 9

@@ -4,39 +4,30 @@ use borrow.Author.Needs.{needs}
 use Rattle.tick.proofs.note.Statement.{statement}
 use Rattle.tick.proofs.note.Tie as tie
 
--- src/lib.rt:195:9
 note-atom-requires : tie.Need-note-atom-requires
 note-atom-requires c κs = search needs
 
--- src/lib.rt:195:9
 returns : tie.Need-returns
 returns c = search needs
 
--- src/lib.rt:198:9
 note-register-requires : tie.Need-note-register-requires
 note-register-requires c κs = search needs
 
--- src/lib.rt:198:9
 returns-2 : tie.Need-returns-2
 returns-2 c = search any-atoms
 
--- src/lib.rt:201:9
 returns-3 : tie.Need-returns-3
 returns-3 c = search no-operation
 
--- src/lib.rt:204:9
 note-plain-requires : tie.Need-note-plain-requires
 note-plain-requires c κs = search needs
 
--- src/lib.rt:204:9
 returns-4 : tie.Need-returns-4
 returns-4 c = search any-atoms
 
--- src/lib.rt:206:5
 note-end-requires : tie.Need-note-end-requires
 note-end-requires c κs = search needs
 
--- src/lib.rt:189:1
 returns-5 : tie.Need-returns-5
 returns-5 c = search any-atoms
 

@@ -5,31 +5,24 @@ use borrow.Author.Needs.{needs}
 use Rattle.tick.proofs.note_atom.Statement.{statement}
 use Rattle.tick.proofs.note_atom.Tie as tie
 
--- src/lib.rt:88:13
 cast-a : tie.Need-cast-a
 cast-a c = search needs
 
--- src/lib.rt:90:9
 returns : tie.Need-returns
 returns c = search (by-atom, tests)
 
--- src/lib.rt:92:9
 raised-requires : tie.Need-raised-requires
 raised-requires c κs = (search atom-operand, search needs)
 
--- src/lib.rt:98:45
 add-larger : tie.Need-add-larger
 add-larger c = search needs
 
--- src/lib.rt:98:20
 larger-requires : tie.Need-larger-requires
 larger-requires c κs = search needs
 
--- src/lib.rt:100:19
 bits-with-requires : tie.Need-bits-with-requires
 bits-with-requires c κs = search needs
 
--- src/lib.rt:84:1
 returns-2 : tie.Need-returns-2
 returns-2 c = search (by-atom, atom-tallied, tests) depth 9
 

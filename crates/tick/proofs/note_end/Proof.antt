@@ -5,31 +5,24 @@ use borrow.Author.Needs.{needs}
 use Rattle.tick.proofs.note_end.Statement.{statement}
 use Rattle.tick.proofs.note_end.Tie as tie
 
--- src/lib.rt:174:9
 returns : tie.Need-returns
 returns c = search unknown-operation
 
--- src/lib.rt:177:9
 returns-2 : tie.Need-returns-2
 returns-2 c = search not-alone
 
--- src/lib.rt:180:9
 note-store-requires : tie.Need-note-store-requires
 note-store-requires c κs = search needs
 
--- src/lib.rt:180:9
 returns-3 : tie.Need-returns-3
 returns-3 c = search needs
 
--- src/lib.rt:183:9
 returns-4 : tie.Need-returns-4
 returns-4 c = search (by-match, tests) depth 9
 
--- src/lib.rt:185:17
 raised-requires : tie.Need-raised-requires
 raised-requires c κs = (search end-operand, search needs)
 
--- src/lib.rt:168:1
 returns-5 : tie.Need-returns-5
 returns-5 c = search (by-match, match-tallied, tests) depth 9
 

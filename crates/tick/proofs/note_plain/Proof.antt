@@ -5,27 +5,21 @@ use borrow.Author.Needs.{needs}
 use Rattle.tick.proofs.note_plain.Statement.{statement}
 use Rattle.tick.proofs.note_plain.Tie as tie
 
--- src/lib.rt:133:9
 returns : tie.Need-returns
 returns c = search filled-argument
 
--- src/lib.rt:135:9
 row-requires : tie.Need-row-requires
 row-requires c κs = search needs
 
--- src/lib.rt:136:19
 cast-if2 : tie.Need-cast-if2
 cast-if2 c = search needs
 
--- src/lib.rt:137:9
 returns-2 : tie.Need-returns-2
 returns-2 c = search (by-plain, tests) depth 9
 
--- src/lib.rt:139:17
 raised-requires : tie.Need-raised-requires
 raised-requires c κs = (search plain-operand, search needs)
 
--- src/lib.rt:128:1
 returns-3 : tie.Need-returns-3
 returns-3 c = search (by-plain, plain-tallied, tests) depth 9
 

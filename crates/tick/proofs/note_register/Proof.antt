@@ -5,27 +5,21 @@ use borrow.Author.Needs.{needs}
 use Rattle.tick.proofs.note_register.Statement.{statement}
 use Rattle.tick.proofs.note_register.Tie as tie
 
--- src/lib.rt:110:13
 cast-a : tie.Need-cast-a
 cast-a c = search needs
 
--- src/lib.rt:112:9
 returns : tie.Need-returns
 returns c = search (by-register, tests)
 
--- src/lib.rt:114:9
 raised-requires : tie.Need-raised-requires
 raised-requires c κs = (search register-operand, search needs)
 
--- src/lib.rt:121:45
 add-larger : tie.Need-add-larger
 add-larger c = search needs
 
--- src/lib.rt:121:20
 larger-requires : tie.Need-larger-requires
 larger-requires c κs = search needs
 
--- src/lib.rt:106:1
 returns-2 : tie.Need-returns-2
 returns-2 c = search (by-register, register-tallied, tests) depth 9
 

@@ -5,27 +5,21 @@ use borrow.Author.Needs.{needs}
 use Rattle.tick.proofs.note_store.Statement.{statement}
 use Rattle.tick.proofs.note_store.Tie as tie
 
--- src/lib.rt:147:13
 cast-a : tie.Need-cast-a
 cast-a c = search needs
 
--- src/lib.rt:149:9
 returns : tie.Need-returns
 returns c = search (by-store, tests) depth 9
 
--- src/lib.rt:152:9
 returns-2 : tie.Need-returns-2
 returns-2 c = search (by-store, tests) depth 9
 
--- src/lib.rt:154:9
 raised-requires : tie.Need-raised-requires
 raised-requires c κs = (search store-operand, search needs)
 
--- src/lib.rt:157:21
 add-t7 : tie.Need-add-t7
 add-t7 c = search needs
 
--- src/lib.rt:143:1
 returns-3 : tie.Need-returns-3
 returns-3 c = search (by-store, store-tallied, tests) depth 9
 

@@ -4,47 +4,36 @@ use borrow.Author.Needs.{needs}
 use Rattle.tick.proofs.step.Statement.{statement}
 use Rattle.tick.proofs.step.Tie as tie
 
--- src/lib.rt:406:8
 lacks-requires : tie.Need-lacks-requires
 lacks-requires c κs = search needs
 
--- src/lib.rt:407:9
 returns : tie.Need-returns
 returns c = search short-tick
 
--- src/lib.rt:410:9
 returns-2 : tie.Need-returns-2
 returns-2 c = search atom-above-one
 
--- src/lib.rt:413:18
 slice-aggregate-are-bits : tie.Need-slice-aggregate-are-bits
 slice-aggregate-are-bits c = search part-long
 
--- src/lib.rt:413:9
 are-bits-requires : tie.Need-are-bits-requires
 are-bits-requires c κs = search needs
 
--- src/lib.rt:414:9
 returns-3 : tie.Need-returns-3
 returns-3 c = search register-above-one
 
--- src/lib.rt:416:9
 evaluate-requires : tie.Need-evaluate-requires
 evaluate-requires c κs = search nothing-refused
 
--- src/lib.rt:417:5
 clear-requires : tie.Need-clear-requires
 clear-requires c κs = search needs
 
--- src/lib.rt:402:1
 same-length : tie.Need-same-length
 same-length c = search needs
 
--- src/lib.rt:402:1
 same-length-2 : tie.Need-same-length-2
 same-length-2 c = search needs
 
--- src/lib.rt:402:1
 returns-4 : tie.Need-returns-4
 returns-4 c = search evaluated-tick
 

@@ -6,34 +6,27 @@ use borrow.Author.Needs.{needs}
 use Rattle.tick.proofs.value.Statement.{statement}
 use Rattle.tick.proofs.value.Tie as tie
 
--- src/lib.rt:309:13
 cast-a : tie.Need-cast-a
 cast-a c = search needs
 
--- src/lib.rt:311:16
 shared-slice-read-result : tie.Need-shared-slice-read-result
 shared-slice-read-result c = search atom-lent
 
--- src/lib.rt:311:9
 returns : tie.Need-returns
 unfolding value-of
 returns c = search tests
 
--- src/lib.rt:314:16
 shared-slice-read-result-2 : tie.Need-shared-slice-read-result-2
 shared-slice-read-result-2 c = search register-lent
 
--- src/lib.rt:314:9
 returns-2 : tie.Need-returns-2
 unfolding value-of
 returns-2 c = search tests
 
--- src/lib.rt:317:9
 returns-3 : tie.Need-returns-3
 unfolding value-of
 returns-3 c = search tests depth 9
 
--- src/lib.rt:304:1
 returns-4 : tie.Need-returns-4
 unfolding value-of
 returns-4 c = search tests depth 9

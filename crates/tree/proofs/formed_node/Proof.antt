@@ -5,89 +5,66 @@ use Rattle.tree.proofs.Tests.{formed-atom, formed-delay, formed-through
 use borrow.Author.Needs.{needs}
 use Rattle.tree.proofs.formed_node.Statement.{statement}
 use Rattle.tree.proofs.formed_node.Tie as tie
-use Rattle.tree.proofs.formed_node.Reads as reads
-use Rattle.tree.proofs.formed_node.Lts as lts
-use Rattle.tree.proofs.both.Reads as both-reads
 
--- src/lib.rt:49:49
 both-requires : tie.Need-both-requires
 both-requires c κs = search needs
 
--- src/lib.rt:49:34
 both-requires-2 : tie.Need-both-requires-2
 both-requires-2 c κs = search needs
 
--- src/lib.rt:49:9
 both-requires-3 : tie.Need-both-requires-3
 both-requires-3 c κs = search needs
 
--- src/lib.rt:49:9
 returns : tie.Need-returns
 returns c = search formed-atom
 
--- src/lib.rt:52:30
 both-requires-4 : tie.Need-both-requires-4
 both-requires-4 c κs = search needs
 
--- src/lib.rt:52:9
 both-requires-5 : tie.Need-both-requires-5
 both-requires-5 c κs = search needs
 
--- src/lib.rt:52:9
 returns-2 : tie.Need-returns-2
 returns-2 c = search formed-delay
 
--- src/lib.rt:55:48
 both-requires-6 : tie.Need-both-requires-6
 both-requires-6 c κs = search needs
 
--- src/lib.rt:55:34
 both-requires-7 : tie.Need-both-requires-7
 both-requires-7 c κs = search needs
 
--- src/lib.rt:55:9
 both-requires-8 : tie.Need-both-requires-8
 both-requires-8 c κs = search needs
 
--- src/lib.rt:55:9
 returns-3 : tie.Need-returns-3
 returns-3 c = search formed-throughout
 
--- src/lib.rt:58:44
 both-requires-9 : tie.Need-both-requires-9
 both-requires-9 c κs = search needs
 
--- src/lib.rt:58:30
 both-requires-10 : tie.Need-both-requires-10
 both-requires-10 c κs = search needs
 
--- src/lib.rt:58:9
 both-requires-11 : tie.Need-both-requires-11
 both-requires-11 c κs = search needs
 
--- src/lib.rt:58:9
 returns-4 : tie.Need-returns-4
 returns-4 c = search formed-within
 
--- src/lib.rt:61:9
 returns-5 : tie.Need-returns-5
 unfolding formed-node
 returns-5 c = search tests depth 12
 
--- src/lib.rt:64:9
 returns-6 : tie.Need-returns-6
 unfolding formed-node
 returns-6 c = search tests depth 12
 
--- src/lib.rt:66:19
 both-requires-12 : tie.Need-both-requires-12
 both-requires-12 c κs = search needs
 
--- src/lib.rt:66:5
 both-requires-13 : tie.Need-both-requires-13
 both-requires-13 c κs = search needs
 
--- src/lib.rt:45:1
 returns-7 : tie.Need-returns-7
 returns-7 c = search formed-repetition
 

@@ -3,32 +3,22 @@ use Rattle.tree.proofs.Checks.{operands-within, misused-counted}
 use borrow.Author.Needs.{needs}
 use Rattle.tree.proofs.lowest_misused.Statement.{statement}
 use Rattle.tree.proofs.lowest_misused.Tie as tie
-use Rattle.tree.proofs.lowest_misused.Reads as reads
-use Rattle.tree.proofs.lowest_misused.Lts as lts
-use Rattle.tree.proofs.count_uses.Reads as count-uses-reads
-use Rattle.tree.proofs.lowest_not_once.Reads as lowest-not-once-reads
 
--- src/lib.rt:229:16
 slice-aggregate-count-uses : tie.Need-slice-aggregate-count-uses
 slice-aggregate-count-uses c = search needs
 
--- src/lib.rt:229:5
 count-uses-requires : tie.Need-count-uses-requires
 count-uses-requires c κs = search operands-within
 
--- src/lib.rt:230:21
 slice-aggregate-lowest-not-once : tie.Need-slice-aggregate-lowest-not-once
 slice-aggregate-lowest-not-once c = search needs
 
--- src/lib.rt:230:28
 sub-lowest-not-once : tie.Need-sub-lowest-not-once
 sub-lowest-not-once c = search needs
 
--- src/lib.rt:230:5
 lowest-not-once-requires : tie.Need-lowest-not-once-requires
 lowest-not-once-requires c κs = search needs
 
--- src/lib.rt:224:1
 returns : tie.Need-returns
 returns c = search misused-counted
 

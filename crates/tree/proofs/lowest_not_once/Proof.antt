@@ -5,9 +5,6 @@ use Rattle.tree.specs.Checks.{counted-once}
 use Rattle.tree.proofs.Lowest.{Looking, looking-begins, looking-on, fails-here, none-fails}
 use Rattle.tree.proofs.lowest_not_once.Statement.{statement}
 use Rattle.tree.proofs.lowest_not_once.Tie as tie
-use Rattle.tree.proofs.lowest_not_once.Reads as reads
-use Rattle.tree.proofs.lowest_not_once.Lts as lts
-use Rattle.tree.proofs.counted_once.Reads as counted-once-reads
 
 abbrev Inv-loop : tie.InvT-loop
 Inv-loop used count k₀ k = Looking 2 (counted-once used) count k
@@ -15,31 +12,24 @@ Inv-loop used count k₀ k = Looking 2 (counted-once used) count k
 abbrev μ-loop : tie.MeasureT-loop
 μ-loop used count k₀ k = count - k
 
--- src/lib.rt:214:5
 loop-holds : tie.Need-loop-holds Inv-loop μ-loop
 loop-holds c = search looking-begins
 
--- src/lib.rt:215:13
 counted-once-requires : tie.Need-counted-once-requires Inv-loop μ-loop
 counted-once-requires c κs = search needs
 
--- src/lib.rt:216:13
 returns : tie.Need-returns Inv-loop μ-loop
 returns c = search fails-here
 
--- src/lib.rt:218:9
 add-k : tie.Need-add-k Inv-loop μ-loop
 add-k c = search needs
 
--- src/lib.rt:214:5
 loop-less : tie.Need-loop-less Inv-loop μ-loop
 loop-less c = search needs
 
--- src/lib.rt:214:5
 loop-again : tie.Need-loop-again Inv-loop μ-loop
 loop-again c = search looking-on
 
--- src/lib.rt:209:1
 returns-2 : tie.Need-returns-2 Inv-loop μ-loop
 returns-2 c = search none-fails
 

@@ -3,35 +3,27 @@ use Rattle.words.specs.Choice.{tests}
 use Rattle.meaning.specs.Refusals.{range-node}
 use Rattle.tree.proofs.range_node.Statement.{statement}
 use Rattle.tree.proofs.range_node.Tie as tie
-use Rattle.tree.proofs.range_node.Reads as reads
-use Rattle.tree.proofs.range_node.Lts as lts
 
--- src/lib.rt:74:9
 returns : tie.Need-returns
 unfolding range-node
 returns c = search tests depth 12
 
--- src/lib.rt:77:9
 returns-2 : tie.Need-returns-2
 unfolding range-node
 returns-2 c = search tests depth 12
 
--- src/lib.rt:80:9
 returns-3 : tie.Need-returns-3
 unfolding range-node
 returns-3 c = search tests depth 12
 
--- src/lib.rt:83:9
 returns-4 : tie.Need-returns-4
 unfolding range-node
 returns-4 c = search tests depth 12
 
--- src/lib.rt:86:9
 returns-5 : tie.Need-returns-5
 unfolding range-node
 returns-5 c = search tests depth 12
 
--- src/lib.rt:70:1
 returns-6 : tie.Need-returns-6
 unfolding range-node
 returns-6 c = search tests depth 12

@@ -1,74 +1,56 @@
 -- The five words are those of node n, and inside the table.
-use Rattle.meaning.specs.Tree.{nodeAt}
+use Rattle.meaning.specs.Tree.{node-at}
 use borrow.Author.Needs.{needs}
 use Rattle.tree.proofs.read.Statement.{statement}
 use Rattle.tree.proofs.read.Tie as tie
-use Rattle.tree.proofs.read.Reads as reads
-use Rattle.tree.proofs.read.Lts as lts
 
--- src/lib.rt:16:13
 mul-i : tie.Need-mul-i
 mul-i c = search needs
 
--- src/lib.rt:18:15
 mul-t4 : tie.Need-mul-t4
 mul-t4 c = search needs
 
--- src/lib.rt:18:15
 shared-slice-read-t6 : tie.Need-shared-slice-read-t6
 shared-slice-read-t6 c = search needs
 
--- src/lib.rt:19:14
 add-t7 : tie.Need-add-t7
 add-t7 c = search needs
 
--- src/lib.rt:19:12
 mul-t8 : tie.Need-mul-t8
 mul-t8 c = search needs
 
--- src/lib.rt:19:12
 shared-slice-read-t10 : tie.Need-shared-slice-read-t10
 shared-slice-read-t10 c = search needs
 
--- src/lib.rt:20:14
 add-t11 : tie.Need-add-t11
 add-t11 c = search needs
 
--- src/lib.rt:20:12
 mul-t12 : tie.Need-mul-t12
 mul-t12 c = search needs
 
--- src/lib.rt:20:12
 shared-slice-read-t14 : tie.Need-shared-slice-read-t14
 shared-slice-read-t14 c = search needs
 
--- src/lib.rt:21:16
 add-t15 : tie.Need-add-t15
 add-t15 c = search needs
 
--- src/lib.rt:21:14
 mul-t16 : tie.Need-mul-t16
 mul-t16 c = search needs
 
--- src/lib.rt:21:14
 shared-slice-read-t18 : tie.Need-shared-slice-read-t18
 shared-slice-read-t18 c = search needs
 
--- src/lib.rt:22:16
 add-t19 : tie.Need-add-t19
 add-t19 c = search needs
 
--- src/lib.rt:22:14
 mul-t20 : tie.Need-mul-t20
 mul-t20 c = search needs
 
--- src/lib.rt:22:14
 shared-slice-read-t22 : tie.Need-shared-slice-read-t22
 shared-slice-read-t22 c = search needs
 
--- src/lib.rt:12:1
 returns : tie.Need-returns
-unfolding nodeAt
+unfolding node-at
 returns c = search needs
 
 pub read-spec : {M : Type 1} → statement M

@@ -3,33 +3,22 @@ use Rattle.tree.proofs.Uses.{left-within, right-within, used-both}
 use borrow.Author.Needs.{needs}
 use Rattle.tree.proofs.use_operands.Statement.{statement}
 use Rattle.tree.proofs.use_operands.Tie as tie
-use Rattle.tree.proofs.use_operands.Reads as reads
-use Rattle.tree.proofs.use_operands.Lts as lts
-use Rattle.tree.proofs.use_if.Reads as use-if-reads
-use Rattle.tree.proofs.uses_p.Reads as uses-p-reads
-use Rattle.tree.proofs.uses_q.Reads as uses-q-reads
 
--- src/lib.rt:184:18
 uses-p-requires : tie.Need-uses-p-requires
 uses-p-requires c κs = search needs
 
--- src/lib.rt:184:5
 use-if-requires : tie.Need-use-if-requires
 use-if-requires c κs = search left-within
 
--- src/lib.rt:185:18
 uses-q-requires : tie.Need-uses-q-requires
 uses-q-requires c κs = search needs
 
--- src/lib.rt:185:5
 use-if-requires-2 : tie.Need-use-if-requires-2
 use-if-requires-2 c κs = search right-within
 
--- src/lib.rt:180:1
 same-length : tie.Need-same-length
 same-length c = search needs
 
--- src/lib.rt:180:1
 returns : tie.Need-returns
 returns c = search used-both
 

@@ -5,8 +5,6 @@ use Prim.Native.Nat.{_-_}
 use lib.ListN.{length}
 use Rattle.trees_refused.proofs.atoms.Statement.{statement}
 use Rattle.trees_refused.proofs.atoms.Tie as tie
-use Rattle.trees_refused.proofs.atoms.Reads as reads
-use Rattle.trees_refused.proofs.atoms.Lts as lts
 
 abbrev Inv-loop : tie.InvT-loop
 Inv-loop t₀ n₀ t n = length t ≡ length t₀
@@ -14,35 +12,27 @@ Inv-loop t₀ n₀ t n = length t ≡ length t₀
 abbrev μ-loop : tie.MeasureT-loop
 μ-loop t₀ n₀ t n = 2048 - n
 
--- src/main.rt:615:5
 loop-holds : tie.Need-loop-holds Inv-loop μ-loop
 loop-holds c = search needs
 
--- src/main.rt:616:19
 node-requires : tie.Need-node-requires Inv-loop μ-loop
 node-requires c κs = search needs
 
--- src/main.rt:616:9
 put-requires : tie.Need-put-requires Inv-loop μ-loop
 put-requires c κs = search needs
 
--- src/main.rt:617:9
 add-n : tie.Need-add-n Inv-loop μ-loop
 add-n c = search needs
 
--- src/main.rt:615:5
 loop-less : tie.Need-loop-less Inv-loop μ-loop
 loop-less c = search needs
 
--- src/main.rt:615:5
 loop-again : tie.Need-loop-again Inv-loop μ-loop
 loop-again c = search needs
 
--- src/main.rt:613:1
 same-length : tie.Need-same-length Inv-loop μ-loop
 same-length c = search needs
 
--- src/main.rt:613:1
 returns : tie.Need-returns Inv-loop μ-loop
 returns c = search needs
 

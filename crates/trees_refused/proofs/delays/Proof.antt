@@ -5,8 +5,6 @@ use Prim.Native.Nat.{_-_}
 use lib.ListN.{length}
 use Rattle.trees_refused.proofs.delays.Statement.{statement}
 use Rattle.trees_refused.proofs.delays.Tie as tie
-use Rattle.trees_refused.proofs.delays.Reads as reads
-use Rattle.trees_refused.proofs.delays.Lts as lts
 
 abbrev Inv-loop : tie.InvT-loop
 Inv-loop t₀ i₀ t i = length t ≡ length t₀
@@ -14,51 +12,39 @@ Inv-loop t₀ i₀ t i = length t ≡ length t₀
 abbrev μ-loop : tie.MeasureT-loop
 μ-loop t₀ i₀ t i = 2047 - i
 
--- src/main.rt:334:5
 loop-holds : tie.Need-loop-holds Inv-loop μ-loop
 loop-holds c = search needs
 
--- src/main.rt:335:16
 add-put : tie.Need-add-put Inv-loop μ-loop
 add-put c = search needs
 
--- src/main.rt:335:32
 mul-delay : tie.Need-mul-delay Inv-loop μ-loop
 mul-delay c = search needs
 
--- src/main.rt:335:39
 mul-delay-2 : tie.Need-mul-delay-2 Inv-loop μ-loop
 mul-delay-2 c = search needs
 
--- src/main.rt:335:39
 add-delay : tie.Need-add-delay Inv-loop μ-loop
 add-delay c = search needs
 
--- src/main.rt:335:26
 delay-requires : tie.Need-delay-requires Inv-loop μ-loop
 delay-requires c κs = search needs
 
--- src/main.rt:335:9
 put-requires : tie.Need-put-requires Inv-loop μ-loop
 put-requires c κs = search needs
 
--- src/main.rt:336:9
 add-i : tie.Need-add-i Inv-loop μ-loop
 add-i c = search needs
 
--- src/main.rt:334:5
 loop-less : tie.Need-loop-less Inv-loop μ-loop
 loop-less c = search needs
 
--- src/main.rt:334:5
 loop-again : tie.Need-loop-again Inv-loop μ-loop
 loop-again c = search needs
 
--- src/main.rt:332:1
 same-length : tie.Need-same-length Inv-loop μ-loop
 same-length c = search needs
 
--- src/main.rt:332:1
 returns : tie.Need-returns Inv-loop μ-loop
 returns c = search needs
 

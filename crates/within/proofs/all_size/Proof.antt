@@ -5,11 +5,6 @@ use Rattle.within.proofs.Rows.{still-paired}
 use Rattle.within.proofs.SizePass.{AllSizes, all-sizes-begin, all-sizes-small, all-sizes-text-fits, all-sizes-stores-fit, all-sizes-on, all-sizes-end, all-sizes-text, all-sizes-stores}
 use Rattle.within.proofs.all_size.Statement.{statement}
 use Rattle.within.proofs.all_size.Tie as tie
-use Rattle.within.proofs.all_size.Reads as reads
-use Rattle.within.proofs.all_size.Lts as lts
-use Rattle.expand.proofs.alternatives.Reads as alternatives-reads
-use Rattle.within.proofs.plus.Reads as plus-reads
-use Rattle.within.proofs.row_size.Reads as row-size-reads
 
 abbrev Inv-loop : tie.InvT-loop
 Inv-loop t n1 n2 work₀ count total₀ i₀ work total i = AllSizes t n1 n2 work₀ work total i
@@ -17,39 +12,30 @@ Inv-loop t n1 n2 work₀ count total₀ i₀ work total i = AllSizes t n1 n2 wor
 abbrev μ-loop : tie.MeasureT-loop
 μ-loop t n1 n2 work₀ count total₀ i₀ work total i = count - i
 
--- src/lib.rt:503:9
 alternatives-requires : tie.Need-alternatives-requires Inv-loop μ-loop
 alternatives-requires c κs = search needs
 
--- src/lib.rt:509:5
 loop-holds : tie.Need-loop-holds Inv-loop μ-loop
 loop-holds c = search all-sizes-begin
 
--- src/lib.rt:510:13
 row-size-requires : tie.Need-row-size-requires Inv-loop μ-loop
 row-size-requires c κs = (search still-paired, search needs, search all-sizes-small)
 
--- src/lib.rt:511:9
 plus-requires : tie.Need-plus-requires Inv-loop μ-loop
 plus-requires c κs = (search all-sizes-text-fits, search all-sizes-stores-fit)
 
--- src/lib.rt:512:9
 add-i : tie.Need-add-i Inv-loop μ-loop
 add-i c = search needs
 
--- src/lib.rt:509:5
 loop-less : tie.Need-loop-less Inv-loop μ-loop
 loop-less c = search needs
 
--- src/lib.rt:509:5
 loop-again : tie.Need-loop-again Inv-loop μ-loop
 loop-again c = search all-sizes-on
 
--- src/lib.rt:498:1
 same-length : tie.Need-same-length Inv-loop μ-loop
 same-length c = search needs
 
--- src/lib.rt:498:1
 returns : tie.Need-returns Inv-loop μ-loop
 returns c = (search all-sizes-end, (search all-sizes-text, search all-sizes-stores))
 

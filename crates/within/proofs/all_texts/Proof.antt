@@ -5,10 +5,6 @@ use Rattle.within.proofs.Rows.{still-paired}
 use Rattle.within.proofs.TextPass.{AllTexts, all-texts-begin, all-texts-small, all-texts-room, all-texts-on, all-texts-end}
 use Rattle.within.proofs.all_texts.Statement.{statement}
 use Rattle.within.proofs.all_texts.Tie as tie
-use Rattle.within.proofs.all_texts.Reads as reads
-use Rattle.within.proofs.all_texts.Lts as lts
-use Rattle.expand.proofs.alternatives.Reads as alternatives-reads
-use Rattle.within.proofs.row_texts.Reads as row-texts-reads
 
 abbrev Inv-loop : tie.InvT-loop
 Inv-loop t n1 n2 first work₀ out₀ at count p₀ r₀ i₀ work out p r i = AllTexts t n1 n2 first work₀ work out₀ at out p r i
@@ -16,39 +12,30 @@ Inv-loop t n1 n2 first work₀ out₀ at count p₀ r₀ i₀ work out p r i = A
 abbrev μ-loop : tie.MeasureT-loop
 μ-loop t n1 n2 first work₀ out₀ at count p₀ r₀ i₀ work out p r i = count - i
 
--- src/lib.rt:378:9
 alternatives-requires : tie.Need-alternatives-requires Inv-loop μ-loop
 alternatives-requires c κs = search needs
 
--- src/lib.rt:382:5
 loop-holds : tie.Need-loop-holds Inv-loop μ-loop
 loop-holds c = search all-texts-begin
 
--- src/lib.rt:383:13
 row-texts-requires : tie.Need-row-texts-requires Inv-loop μ-loop
 row-texts-requires c κs = (search still-paired, search needs, search needs, search all-texts-small, search all-texts-room)
 
--- src/lib.rt:386:9
 add-i : tie.Need-add-i Inv-loop μ-loop
 add-i c = search needs
 
--- src/lib.rt:382:5
 loop-less : tie.Need-loop-less Inv-loop μ-loop
 loop-less c = search needs
 
--- src/lib.rt:382:5
 loop-again : tie.Need-loop-again Inv-loop μ-loop
 loop-again c = search all-texts-on
 
--- src/lib.rt:374:1
 same-length : tie.Need-same-length Inv-loop μ-loop
 same-length c = search needs
 
--- src/lib.rt:374:1
 same-length-2 : tie.Need-same-length-2 Inv-loop μ-loop
 same-length-2 c = search needs
 
--- src/lib.rt:374:1
 returns : tie.Need-returns Inv-loop μ-loop
 returns c = search all-texts-end
 

@@ -3,18 +3,13 @@ use borrow.Author.Needs.{needs}
 use Rattle.within.proofs.SizePass.{no-match-size, some-match-size}
 use Rattle.within.proofs.match_size.Statement.{statement}
 use Rattle.within.proofs.match_size.Tie as tie
-use Rattle.within.proofs.match_size.Reads as reads
-use Rattle.within.proofs.match_size.Lts as lts
 
--- src/lib.rt:524:9
 returns : tie.Need-returns
 returns c = (search no-match-size, search needs)
 
--- src/lib.rt:526:5
 sub-result : tie.Need-sub-result
 sub-result c = search needs
 
--- src/lib.rt:518:1
 returns-2 : tie.Need-returns-2
 returns-2 c = (search some-match-size, search needs)
 

@@ -4,40 +4,28 @@ use Rattle.within.proofs.Rows.{placed-number, placed-room, part-kept, p
 use Rattle.within.proofs.SizePass.{part-size-small, part-size-are}
 use Rattle.within.proofs.nth_pair_size.Statement.{statement}
 use Rattle.within.proofs.nth_pair_size.Tie as tie
-use Rattle.within.proofs.nth_pair_size.Reads as reads
-use Rattle.within.proofs.nth_pair_size.Lts as lts
-use Rattle.expand.proofs.alternative.Reads as alternative-reads
-use Rattle.pair.proofs.pair_size.Reads as pair-size-reads
 
--- src/lib.rt:456:9
 alternative-requires : tie.Need-alternative-requires
 alternative-requires c κs = (search placed-number, search placed-room)
 
--- src/lib.rt:457:15
 mul-pair-size : tie.Need-mul-pair-size
 mul-pair-size c = search needs
 
--- src/lib.rt:457:15
 sub-pair-size : tie.Need-sub-pair-size
 sub-pair-size c = search needs
 
--- src/lib.rt:457:15
 part-pair-size-start : tie.Need-part-pair-size-start
 part-pair-size-start c = search needs
 
--- src/lib.rt:457:15
 part-pair-size-end : tie.Need-part-pair-size-end
 part-pair-size-end c = search part-ends
 
--- src/lib.rt:457:5
 pair-size-requires : tie.Need-pair-size-requires
 pair-size-requires c κs = (search part-kept, search part-size-small, search needs)
 
--- src/lib.rt:451:1
 same-length : tie.Need-same-length
 same-length c = search needs
 
--- src/lib.rt:451:1
 returns : tie.Need-returns
 returns c = (search part-size-are, search needs)
 

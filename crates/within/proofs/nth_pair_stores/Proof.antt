@@ -4,73 +4,52 @@ use Rattle.within.proofs.Rows.{placed-number, placed-room, part-kept, p
 use Rattle.within.proofs.StorePass.{part-stores-room, part-registers-small, part-registers-fit, part-register-fits, part-stores-done}
 use Rattle.within.proofs.nth_pair_stores.Statement.{statement}
 use Rattle.within.proofs.nth_pair_stores.Tie as tie
-use Rattle.within.proofs.nth_pair_stores.Reads as reads
-use Rattle.within.proofs.nth_pair_stores.Lts as lts
-use Rattle.expand.proofs.alternative.Reads as alternative-reads
-use Rattle.pair.proofs.pair_registers.Reads as pair-registers-reads
-use Rattle.pair.proofs.pair_stores.Reads as pair-stores-reads
 
--- src/lib.rt:230:9
 alternative-requires : tie.Need-alternative-requires
 alternative-requires c κs = (search placed-number, search placed-room)
 
--- src/lib.rt:231:28
 mul-pair-registers : tie.Need-mul-pair-registers
 mul-pair-registers c = search needs
 
--- src/lib.rt:231:28
 sub-pair-registers : tie.Need-sub-pair-registers
 sub-pair-registers c = search needs
 
--- src/lib.rt:231:28
 part-pair-registers-start : tie.Need-part-pair-registers-start
 part-pair-registers-start c = search needs
 
--- src/lib.rt:231:28
 part-pair-registers-end : tie.Need-part-pair-registers-end
 part-pair-registers-end c = search part-ends
 
--- src/lib.rt:231:9
 pair-registers-requires : tie.Need-pair-registers-requires
 pair-registers-requires c κs = (search part-kept, search needs)
 
--- src/lib.rt:232:25
 mul-pair-stores : tie.Need-mul-pair-stores
 mul-pair-stores c = search needs
 
--- src/lib.rt:232:25
 sub-pair-stores : tie.Need-sub-pair-stores
 sub-pair-stores c = search needs
 
--- src/lib.rt:232:25
 part-pair-stores-start : tie.Need-part-pair-stores-start
 part-pair-stores-start c = search needs
 
--- src/lib.rt:232:25
 part-pair-stores-end : tie.Need-part-pair-stores-end
 part-pair-stores-end c = search part-ends
 
--- src/lib.rt:232:9
 pair-stores-requires : tie.Need-pair-stores-requires
 pair-stores-requires c κs = (search part-kept, search part-registers-small, search part-stores-room)
 
--- src/lib.rt:235:23
 cast-t26 : tie.Need-cast-t26
 cast-t26 c = search part-registers-fit
 
--- src/lib.rt:235:19
 add-t27 : tie.Need-add-t27
 add-t27 c = search part-register-fits
 
--- src/lib.rt:226:1
 same-length : tie.Need-same-length
 same-length c = search needs
 
--- src/lib.rt:226:1
 same-length-2 : tie.Need-same-length-2
 same-length-2 c = search needs
 
--- src/lib.rt:226:1
 returns : tie.Need-returns
 returns c = search part-stores-done
 

@@ -5,61 +5,43 @@ use Rattle.within.proofs.StorePass.{part-registers-small, part-register
 use Rattle.within.proofs.TextPass.{front-stays, front-stays-kept, front-stays-small, part-text-room, part-text-done}
 use Rattle.within.proofs.nth_pair_text.Statement.{statement}
 use Rattle.within.proofs.nth_pair_text.Tie as tie
-use Rattle.within.proofs.nth_pair_text.Reads as reads
-use Rattle.within.proofs.nth_pair_text.Lts as lts
-use Rattle.expand.proofs.alternative.Reads as alternative-reads
-use Rattle.pair.proofs.pair_registers.Reads as pair-registers-reads
-use Rattle.pair.proofs.pair_text_in.Reads as pair-text-in-reads
 
--- src/lib.rt:332:9
 alternative-requires : tie.Need-alternative-requires
 alternative-requires c κs = (search placed-number, search placed-room)
 
--- src/lib.rt:333:28
 mul-pair-registers : tie.Need-mul-pair-registers
 mul-pair-registers c = search needs
 
--- src/lib.rt:333:28
 sub-pair-registers : tie.Need-sub-pair-registers
 sub-pair-registers c = search needs
 
--- src/lib.rt:333:28
 part-pair-registers-start : tie.Need-part-pair-registers-start
 part-pair-registers-start c = search needs
 
--- src/lib.rt:333:28
 part-pair-registers-end : tie.Need-part-pair-registers-end
 part-pair-registers-end c = search part-ends
 
--- src/lib.rt:333:9
 pair-registers-requires : tie.Need-pair-registers-requires
 pair-registers-requires c κs = (search part-kept, search needs)
 
--- src/lib.rt:334:53
 sub-pair-text-in : tie.Need-sub-pair-text-in
 sub-pair-text-in c = search needs
 
--- src/lib.rt:334:9
 pair-text-in-requires : tie.Need-pair-text-in-requires
 pair-text-in-requires c κs = (search needs, search part-ends, search front-stays-kept, search part-kept, search front-stays-small, search part-registers-small, search part-text-room)
 
--- src/lib.rt:337:23
 cast-t27 : tie.Need-cast-t27
 cast-t27 c = search part-registers-fit
 
--- src/lib.rt:337:19
 add-t28 : tie.Need-add-t28
 add-t28 c = search part-register-fits
 
--- src/lib.rt:327:1
 same-length : tie.Need-same-length
 same-length c = search needs
 
--- src/lib.rt:327:1
 same-length-2 : tie.Need-same-length-2
 same-length-2 c = search needs
 
--- src/lib.rt:327:1
 returns : tie.Need-returns
 returns c = (search part-text-done, search front-stays)
 

@@ -4,10 +4,6 @@ use Prim.Native.Nat.{_-_}
 use Rattle.within.proofs.RegisterPass.{PairRegisters, pair-registers-begin, pair-registers-on, pair-registers-fit, pair-registers-end}
 use Rattle.within.proofs.pairs_registers.Statement.{statement}
 use Rattle.within.proofs.pairs_registers.Tie as tie
-use Rattle.within.proofs.pairs_registers.Reads as reads
-use Rattle.within.proofs.pairs_registers.Lts as lts
-use Rattle.expand.proofs.alternatives.Reads as alternatives-reads
-use Rattle.within.proofs.nth_pair_registers.Reads as nth-pair-registers-reads
 
 abbrev Inv-loop : tie.InvT-loop
 Inv-loop t n1 l place work₀ count total₀ j₀ work total j = PairRegisters t n1 l work₀ work total j
@@ -15,39 +11,30 @@ Inv-loop t n1 l place work₀ count total₀ j₀ work total j = PairRegisters t
 abbrev μ-loop : tie.MeasureT-loop
 μ-loop t n1 l place work₀ count total₀ j₀ work total j = count - j
 
--- src/lib.rt:197:9
 alternatives-requires : tie.Need-alternatives-requires Inv-loop μ-loop
 alternatives-requires c κs = search needs
 
--- src/lib.rt:200:5
 loop-holds : tie.Need-loop-holds Inv-loop μ-loop
 loop-holds c = search pair-registers-begin
 
--- src/lib.rt:201:18
 nth-pair-registers-requires : tie.Need-nth-pair-registers-requires Inv-loop μ-loop
 nth-pair-registers-requires c κs = search needs
 
--- src/lib.rt:201:9
 add-total : tie.Need-add-total Inv-loop μ-loop
 add-total c = search pair-registers-fit
 
--- src/lib.rt:202:9
 add-j : tie.Need-add-j Inv-loop μ-loop
 add-j c = search needs
 
--- src/lib.rt:200:5
 loop-less : tie.Need-loop-less Inv-loop μ-loop
 loop-less c = search needs
 
--- src/lib.rt:200:5
 loop-again : tie.Need-loop-again Inv-loop μ-loop
 loop-again c = search pair-registers-on
 
--- src/lib.rt:192:1
 same-length : tie.Need-same-length Inv-loop μ-loop
 same-length c = search needs
 
--- src/lib.rt:192:1
 returns : tie.Need-returns Inv-loop μ-loop
 returns c = (search pair-registers-end, search needs)
 

@@ -4,11 +4,6 @@ use Prim.Native.Nat.{_-_}
 use Rattle.within.proofs.SizePass.{PairSizes, pair-sizes-begin, pair-sizes-small, pair-sizes-text-fits, pair-sizes-stores-fit, pair-sizes-on, pair-sizes-end, pair-sizes-text, pair-sizes-stores}
 use Rattle.within.proofs.pairs_size.Statement.{statement}
 use Rattle.within.proofs.pairs_size.Tie as tie
-use Rattle.within.proofs.pairs_size.Reads as reads
-use Rattle.within.proofs.pairs_size.Lts as lts
-use Rattle.expand.proofs.alternatives.Reads as alternatives-reads
-use Rattle.within.proofs.nth_pair_size.Reads as nth-pair-size-reads
-use Rattle.within.proofs.plus.Reads as plus-reads
 
 abbrev Inv-loop : tie.InvT-loop
 Inv-loop t n1 l two place work₀ count total₀ j₀ work total j = PairSizes t n1 l two work₀ work total j
@@ -16,39 +11,30 @@ Inv-loop t n1 l two place work₀ count total₀ j₀ work total j = PairSizes t
 abbrev μ-loop : tie.MeasureT-loop
 μ-loop t n1 l two place work₀ count total₀ j₀ work total j = count - j
 
--- src/lib.rt:466:9
 alternatives-requires : tie.Need-alternatives-requires Inv-loop μ-loop
 alternatives-requires c κs = search needs
 
--- src/lib.rt:472:5
 loop-holds : tie.Need-loop-holds Inv-loop μ-loop
 loop-holds c = search pair-sizes-begin
 
--- src/lib.rt:473:13
 nth-pair-size-requires : tie.Need-nth-pair-size-requires Inv-loop μ-loop
 nth-pair-size-requires c κs = (search needs, search needs, search pair-sizes-small, search needs)
 
--- src/lib.rt:474:9
 plus-requires : tie.Need-plus-requires Inv-loop μ-loop
 plus-requires c κs = (search pair-sizes-text-fits, search pair-sizes-stores-fit)
 
--- src/lib.rt:475:9
 add-j : tie.Need-add-j Inv-loop μ-loop
 add-j c = search needs
 
--- src/lib.rt:472:5
 loop-less : tie.Need-loop-less Inv-loop μ-loop
 loop-less c = search needs
 
--- src/lib.rt:472:5
 loop-again : tie.Need-loop-again Inv-loop μ-loop
 loop-again c = search pair-sizes-on
 
--- src/lib.rt:461:1
 same-length : tie.Need-same-length Inv-loop μ-loop
 same-length c = search needs
 
--- src/lib.rt:461:1
 returns : tie.Need-returns Inv-loop μ-loop
 returns c = (search pair-sizes-end, (search pair-sizes-text, search pair-sizes-stores))
 

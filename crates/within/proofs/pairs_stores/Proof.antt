@@ -4,10 +4,6 @@ use Prim.Native.Nat.{_-_}
 use Rattle.within.proofs.StorePass.{PairStores, pair-stores-begin, pair-stores-small, pair-stores-room, pair-stores-on, pair-stores-end}
 use Rattle.within.proofs.pairs_stores.Statement.{statement}
 use Rattle.within.proofs.pairs_stores.Tie as tie
-use Rattle.within.proofs.pairs_stores.Reads as reads
-use Rattle.within.proofs.pairs_stores.Lts as lts
-use Rattle.expand.proofs.alternatives.Reads as alternatives-reads
-use Rattle.within.proofs.nth_pair_stores.Reads as nth-pair-stores-reads
 
 abbrev Inv-loop : tie.InvT-loop
 Inv-loop t n1 l n place work₀ out₀ at count p₀ r₀ j₀ work out p r j = PairStores t n1 l n work₀ work out₀ at out p r j
@@ -15,39 +11,30 @@ Inv-loop t n1 l n place work₀ out₀ at count p₀ r₀ j₀ work out p r j = 
 abbrev μ-loop : tie.MeasureT-loop
 μ-loop t n1 l n place work₀ out₀ at count p₀ r₀ j₀ work out p r j = count - j
 
--- src/lib.rt:253:9
 alternatives-requires : tie.Need-alternatives-requires Inv-loop μ-loop
 alternatives-requires c κs = search needs
 
--- src/lib.rt:257:5
 loop-holds : tie.Need-loop-holds Inv-loop μ-loop
 loop-holds c = search pair-stores-begin
 
--- src/lib.rt:258:13
 nth-pair-stores-requires : tie.Need-nth-pair-stores-requires Inv-loop μ-loop
 nth-pair-stores-requires c κs = (search needs, search needs, search needs, search pair-stores-small, search pair-stores-room)
 
--- src/lib.rt:261:9
 add-j : tie.Need-add-j Inv-loop μ-loop
 add-j c = search needs
 
--- src/lib.rt:257:5
 loop-less : tie.Need-loop-less Inv-loop μ-loop
 loop-less c = search needs
 
--- src/lib.rt:257:5
 loop-again : tie.Need-loop-again Inv-loop μ-loop
 loop-again c = search pair-stores-on
 
--- src/lib.rt:249:1
 same-length : tie.Need-same-length Inv-loop μ-loop
 same-length c = search needs
 
--- src/lib.rt:249:1
 same-length-2 : tie.Need-same-length-2 Inv-loop μ-loop
 same-length-2 c = search needs
 
--- src/lib.rt:249:1
 returns : tie.Need-returns Inv-loop μ-loop
 returns c = search pair-stores-end
 

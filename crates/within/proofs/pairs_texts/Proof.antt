@@ -4,10 +4,6 @@ use Prim.Native.Nat.{_-_}
 use Rattle.within.proofs.TextPass.{PairTexts, pair-texts-begin, texts-front-kept, texts-front-small, pair-texts-small, pair-texts-room, pair-texts-on, pair-texts-end}
 use Rattle.within.proofs.pairs_texts.Statement.{statement}
 use Rattle.within.proofs.pairs_texts.Tie as tie
-use Rattle.within.proofs.pairs_texts.Reads as reads
-use Rattle.within.proofs.pairs_texts.Lts as lts
-use Rattle.expand.proofs.alternatives.Reads as alternatives-reads
-use Rattle.within.proofs.nth_pair_text.Reads as nth-pair-text-reads
 
 abbrev Inv-loop : tie.InvT-loop
 Inv-loop t n1 l m n place start work₀ out₀ at count p₀ r₀ j₀ work out p r j = PairTexts t n1 l m n place start work₀ work out₀ at out p r j
@@ -15,39 +11,30 @@ Inv-loop t n1 l m n place start work₀ out₀ at count p₀ r₀ j₀ work out 
 abbrev μ-loop : tie.MeasureT-loop
 μ-loop t n1 l m n place start work₀ out₀ at count p₀ r₀ j₀ work out p r j = count - j
 
--- src/lib.rt:346:9
 alternatives-requires : tie.Need-alternatives-requires Inv-loop μ-loop
 alternatives-requires c κs = search needs
 
--- src/lib.rt:350:5
 loop-holds : tie.Need-loop-holds Inv-loop μ-loop
 loop-holds c = search pair-texts-begin
 
--- src/lib.rt:351:13
 nth-pair-text-requires : tie.Need-nth-pair-text-requires Inv-loop μ-loop
 nth-pair-text-requires c κs = (search needs, search needs, search needs, search needs, search texts-front-kept, search texts-front-small, search pair-texts-small, search pair-texts-room)
 
--- src/lib.rt:354:9
 add-j : tie.Need-add-j Inv-loop μ-loop
 add-j c = search needs
 
--- src/lib.rt:350:5
 loop-less : tie.Need-loop-less Inv-loop μ-loop
 loop-less c = search needs
 
--- src/lib.rt:350:5
 loop-again : tie.Need-loop-again Inv-loop μ-loop
 loop-again c = search pair-texts-on
 
--- src/lib.rt:342:1
 same-length : tie.Need-same-length Inv-loop μ-loop
 same-length c = search needs
 
--- src/lib.rt:342:1
 same-length-2 : tie.Need-same-length-2 Inv-loop μ-loop
 same-length-2 c = search needs
 
--- src/lib.rt:342:1
 returns : tie.Need-returns Inv-loop μ-loop
 returns c = search pair-texts-end
 

@@ -3,40 +3,28 @@ use borrow.Author.Needs.{needs}
 use Rattle.within.proofs.TextPass.{texts-room, zero-room, zero-done, pairs-done}
 use Rattle.within.proofs.put_match.Statement.{statement}
 use Rattle.within.proofs.put_match.Tie as tie
-use Rattle.within.proofs.put_match.Reads as reads
-use Rattle.within.proofs.put_match.Lts as lts
-use Rattle.within.proofs.all_texts.Reads as all-texts-reads
-use Rattle.words.proofs.put.Reads as put-reads
 
--- src/lib.rt:396:9
 all-texts-requires : tie.Need-all-texts-requires
 all-texts-requires c κs = (search needs, search needs, search texts-room)
 
--- src/lib.rt:398:9
 put-requires : tie.Need-put-requires
 put-requires c κs = search zero-room
 
--- src/lib.rt:398:9
 same-length : tie.Need-same-length
 same-length c = search needs
 
--- src/lib.rt:398:9
 same-length-2 : tie.Need-same-length-2
 same-length-2 c = search needs
 
--- src/lib.rt:398:9
 returns : tie.Need-returns
 returns c = search zero-done
 
--- src/lib.rt:392:1
 same-length-3 : tie.Need-same-length-3
 same-length-3 c = search needs
 
--- src/lib.rt:392:1
 same-length-4 : tie.Need-same-length-4
 same-length-4 c = search needs
 
--- src/lib.rt:392:1
 returns-2 : tie.Need-returns-2
 returns-2 c = search pairs-done
 

@@ -5,10 +5,6 @@ use Rattle.within.proofs.Rows.{still-paired}
 use Rattle.within.proofs.StorePass.{AllStores, all-stores-begin, all-stores-small, all-stores-room, all-stores-on, all-stores-end}
 use Rattle.within.proofs.put_stores.Statement.{statement}
 use Rattle.within.proofs.put_stores.Tie as tie
-use Rattle.within.proofs.put_stores.Reads as reads
-use Rattle.within.proofs.put_stores.Lts as lts
-use Rattle.expand.proofs.alternatives.Reads as alternatives-reads
-use Rattle.within.proofs.row_stores.Reads as row-stores-reads
 
 abbrev Inv-loop : tie.InvT-loop
 Inv-loop t n1 n2 first work₀ out₀ at count p₀ r₀ i₀ work out p r i = AllStores t n1 n2 first work₀ work out₀ at out p r i
@@ -16,39 +12,30 @@ Inv-loop t n1 n2 first work₀ out₀ at count p₀ r₀ i₀ work out p r i = A
 abbrev μ-loop : tie.MeasureT-loop
 μ-loop t n1 n2 first work₀ out₀ at count p₀ r₀ i₀ work out p r i = count - i
 
--- src/lib.rt:286:9
 alternatives-requires : tie.Need-alternatives-requires Inv-loop μ-loop
 alternatives-requires c κs = search needs
 
--- src/lib.rt:290:5
 loop-holds : tie.Need-loop-holds Inv-loop μ-loop
 loop-holds c = search all-stores-begin
 
--- src/lib.rt:291:13
 row-stores-requires : tie.Need-row-stores-requires Inv-loop μ-loop
 row-stores-requires c κs = (search still-paired, search needs, search all-stores-small, search all-stores-room)
 
--- src/lib.rt:294:9
 add-i : tie.Need-add-i Inv-loop μ-loop
 add-i c = search needs
 
--- src/lib.rt:290:5
 loop-less : tie.Need-loop-less Inv-loop μ-loop
 loop-less c = search needs
 
--- src/lib.rt:290:5
 loop-again : tie.Need-loop-again Inv-loop μ-loop
 loop-again c = search all-stores-on
 
--- src/lib.rt:282:1
 same-length : tie.Need-same-length Inv-loop μ-loop
 same-length c = search needs
 
--- src/lib.rt:282:1
 same-length-2 : tie.Need-same-length-2 Inv-loop μ-loop
 same-length-2 c = search needs
 
--- src/lib.rt:282:1
 returns : tie.Need-returns Inv-loop μ-loop
 returns c = search all-stores-end
 

@@ -5,10 +5,6 @@ use Rattle.within.proofs.Rows.{still-paired}
 use Rattle.within.proofs.RegisterPass.{AllRegisters, all-registers-begin, all-registers-on, all-registers-fit, all-registers-end}
 use Rattle.within.proofs.registers.Statement.{statement}
 use Rattle.within.proofs.registers.Tie as tie
-use Rattle.within.proofs.registers.Reads as reads
-use Rattle.within.proofs.registers.Lts as lts
-use Rattle.expand.proofs.alternatives.Reads as alternatives-reads
-use Rattle.within.proofs.row_registers.Reads as row-registers-reads
 
 abbrev Inv-loop : tie.InvT-loop
 Inv-loop t n1 n2 work₀ count total₀ i₀ work total i = AllRegisters t n1 n2 work₀ work total i
@@ -16,39 +12,30 @@ Inv-loop t n1 n2 work₀ count total₀ i₀ work total i = AllRegisters t n1 n2
 abbrev μ-loop : tie.MeasureT-loop
 μ-loop t n1 n2 work₀ count total₀ i₀ work total i = count - i
 
--- src/lib.rt:224:9
 alternatives-requires : tie.Need-alternatives-requires Inv-loop μ-loop
 alternatives-requires c κs = search needs
 
--- src/lib.rt:227:5
 loop-holds : tie.Need-loop-holds Inv-loop μ-loop
 loop-holds c = search all-registers-begin
 
--- src/lib.rt:228:18
 row-registers-requires : tie.Need-row-registers-requires Inv-loop μ-loop
 row-registers-requires c κs = (search still-paired, search needs)
 
--- src/lib.rt:228:9
 add-total : tie.Need-add-total Inv-loop μ-loop
 add-total c = search all-registers-fit
 
--- src/lib.rt:229:9
 add-i : tie.Need-add-i Inv-loop μ-loop
 add-i c = search needs
 
--- src/lib.rt:227:5
 loop-less : tie.Need-loop-less Inv-loop μ-loop
 loop-less c = search needs
 
--- src/lib.rt:227:5
 loop-again : tie.Need-loop-again Inv-loop μ-loop
 loop-again c = search all-registers-on
 
--- src/lib.rt:220:1
 same-length : tie.Need-same-length Inv-loop μ-loop
 same-length c = search needs
 
--- src/lib.rt:220:1
 returns : tie.Need-returns Inv-loop μ-loop
 returns c = search all-registers-end
 

@@ -4,55 +4,37 @@ use Rattle.within.proofs.Rows.{placed-room, part-ends, front-stands, fr
 use Rattle.within.proofs.SizePass.{row-size-own-small, row-size-pairs-small, row-size-are, row-size-text-fits, row-size-stores-fit, row-size-text, row-size-stores}
 use Rattle.within.proofs.row_size.Statement.{statement}
 use Rattle.within.proofs.row_size.Tie as tie
-use Rattle.within.proofs.row_size.Reads as reads
-use Rattle.within.proofs.row_size.Lts as lts
-use Rattle.expand.proofs.alternative.Reads as alternative-reads
-use Rattle.within.proofs.pairs_size.Reads as pairs-size-reads
-use Rattle.within.proofs.plus.Reads as plus-reads
-use Rattle.pair.proofs.size_of.Reads as size-of-reads
-use Rattle.pair.proofs.window_len.Reads as window-len-reads
 
--- src/lib.rt:486:9
 alternative-requires : tie.Need-alternative-requires
 alternative-requires c κs = (search needs, search (placed-room, seq2-placed))
 
--- src/lib.rt:487:24
 slice-reshare-prefix-window-len : tie.Need-slice-reshare-prefix-window-len
 slice-reshare-prefix-window-len c = search (part-ends, seq2-placed)
 
--- src/lib.rt:487:24
 slice-aggregate-window-len : tie.Need-slice-aggregate-window-len
 slice-aggregate-window-len c = search (front-measured, seq2-placed)
 
--- src/lib.rt:487:9
 window-len-requires : tie.Need-window-len-requires
 window-len-requires c κs = search (front-stands, seq2-placed)
 
--- src/lib.rt:488:23
 slice-reshare-prefix-size-of : tie.Need-slice-reshare-prefix-size-of
 slice-reshare-prefix-size-of c = search (part-ends, seq2-placed)
 
--- src/lib.rt:488:23
 slice-aggregate-size-of : tie.Need-slice-aggregate-size-of
 slice-aggregate-size-of c = search (front-measured, seq2-placed)
 
--- src/lib.rt:488:9
 size-of-requires : tie.Need-size-of-requires
 size-of-requires c κs = (search (front-stands, seq2-placed), search row-size-own-small)
 
--- src/lib.rt:489:9
 pairs-size-requires : tie.Need-pairs-size-requires
 pairs-size-requires c κs = (search seq1-placed, search row-size-pairs-small, search needs)
 
--- src/lib.rt:494:5
 plus-requires : tie.Need-plus-requires
 plus-requires c κs = (search row-size-text-fits, search row-size-stores-fit)
 
--- src/lib.rt:481:1
 same-length : tie.Need-same-length
 same-length c = search needs
 
--- src/lib.rt:481:1
 returns : tie.Need-returns
 returns c = (search row-size-are, (search row-size-text, search row-size-stores))
 

@@ -5,62 +5,43 @@ use Rattle.within.proofs.StorePass.{row-own-fits, row-register-fits, ro
 use Rattle.within.proofs.TextPass.{row-texts-room, row-texts-done}
 use Rattle.within.proofs.row_texts.Statement.{statement}
 use Rattle.within.proofs.row_texts.Tie as tie
-use Rattle.within.proofs.row_texts.Reads as reads
-use Rattle.within.proofs.row_texts.Lts as lts
-use Rattle.expand.proofs.alternative.Reads as alternative-reads
-use Rattle.within.proofs.pairs_texts.Reads as pairs-texts-reads
-use Rattle.pair.proofs.registers_of.Reads as registers-of-reads
-use Rattle.pair.proofs.window_len.Reads as window-len-reads
 
--- src/lib.rt:367:9
 alternative-requires : tie.Need-alternative-requires
 alternative-requires c κs = (search needs, search (placed-room, seq2-placed))
 
--- src/lib.rt:368:24
 slice-reshare-prefix-window-len : tie.Need-slice-reshare-prefix-window-len
 slice-reshare-prefix-window-len c = search (part-ends, seq2-placed)
 
--- src/lib.rt:368:24
 slice-aggregate-window-len : tie.Need-slice-aggregate-window-len
 slice-aggregate-window-len c = search (front-measured, seq2-placed)
 
--- src/lib.rt:368:9
 window-len-requires : tie.Need-window-len-requires
 window-len-requires c κs = search (front-stands, seq2-placed)
 
--- src/lib.rt:369:30
 slice-reshare-prefix-registers-of : tie.Need-slice-reshare-prefix-registers-of
 slice-reshare-prefix-registers-of c = search (part-ends, seq2-placed)
 
--- src/lib.rt:369:30
 slice-aggregate-registers-of : tie.Need-slice-aggregate-registers-of
 slice-aggregate-registers-of c = search (front-measured, seq2-placed)
 
--- src/lib.rt:369:17
 registers-of-requires : tie.Need-registers-of-requires
 registers-of-requires c κs = search (front-stands, seq2-placed)
 
--- src/lib.rt:369:17
 cast-r : tie.Need-cast-r
 cast-r c = search row-own-fits
 
--- src/lib.rt:369:13
 add-r : tie.Need-add-r
 add-r c = search row-register-fits
 
--- src/lib.rt:370:5
 pairs-texts-requires : tie.Need-pairs-texts-requires
 pairs-texts-requires c κs = (search seq1-placed, search needs, search needs, search (front-stands, seq2-placed), search row-own-small, search row-pairs-small, search row-texts-room)
 
--- src/lib.rt:363:1
 same-length : tie.Need-same-length
 same-length c = search needs
 
--- src/lib.rt:363:1
 same-length-2 : tie.Need-same-length-2
 same-length-2 c = search needs
 
--- src/lib.rt:363:1
 returns : tie.Need-returns
 returns c = search row-texts-done
 

@@ -3,32 +3,22 @@ use borrow.Author.Needs.{needs}
 use Rattle.within.proofs.SizePass.{words-counted}
 use Rattle.within.proofs.word_count.Statement.{statement}
 use Rattle.within.proofs.word_count.Tie as tie
-use Rattle.within.proofs.word_count.Reads as reads
-use Rattle.within.proofs.word_count.Lts as lts
-use Rattle.within.proofs.all_size.Reads as all-size-reads
-use Rattle.within.proofs.match_size.Reads as match-size-reads
 
--- src/lib.rt:534:9
 all-size-requires : tie.Need-all-size-requires
 all-size-requires c κs = search needs
 
--- src/lib.rt:535:9
 match-size-requires : tie.Need-match-size-requires
 match-size-requires c κs = search needs
 
--- src/lib.rt:536:17
 add-result : tie.Need-add-result
 add-result c = search needs
 
--- src/lib.rt:536:5
 add-result-2 : tie.Need-add-result-2
 add-result-2 c = search needs
 
--- src/lib.rt:530:1
 same-length : tie.Need-same-length
 same-length c = search needs
 
--- src/lib.rt:530:1
 returns : tie.Need-returns
 returns c = search words-counted
 

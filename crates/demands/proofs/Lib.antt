@@ -6,4 +6,5 @@ pub mod TreesHaveOneOutcome
 pub mod AlternativesHaveOneOutcome
 pub mod RootsHaveOneOutcome
 pub mod ListingsHaveOneOutcome
+pub mod TheCBoundaryHasOneOutcome
 pub mod CorrectionHasOneOutcome

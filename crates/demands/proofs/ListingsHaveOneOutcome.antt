@@ -29,6 +29,7 @@ use Rattle.stretch.proofs.Reader.at_another as reader-at-another
 use Rattle.stretch.proofs.Reader.next as reader-next
 use Rattle.stretch.proofs.Reader.assignment as reader-assignment
 use Rattle.stretch.proofs.stretch as stretch
+use Rattle.stretch.proofs.start as start
 use Rattle.text.proofs.text as text
 use Rattle.little_endian.proofs.read as read
 use Rattle.lowered_text.proofs.print as print
@@ -102,6 +103,9 @@ module _ {M : Type 1} (𝓤 : URA M) (H : Heap 𝓤) (A : Atoms 𝓤) (mem : Mem
 
   pub stretch-has-one-outcome : OneOutcomeUpTo 𝓤 stretch.ended (stretch.clauses 𝓤 H A mem run) (λ κs a o o′. now (o .result) ≡ now (o′ .result))
   stretch-has-one-outcome κs a g o o′ = from-both 𝓤 same
+
+  pub stretch-start-has-one-outcome : OneOutcome 𝓤 start.ended (start.clauses 𝓤 H A mem run)
+  stretch-start-has-one-outcome κs a g o o′ = by-an-equation 𝓤
 
   -- Text, and words from bytes.
   pub text-has-one-outcome : OneOutcome 𝓤 text.ended (text.clauses 𝓤 H A mem run)

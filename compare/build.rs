@@ -1,0 +1,80 @@
+//! Brings three things together: the original's files, which stay where they are; this project's archive; and a plain interpreter in C.
+//!
+//! `SVA_SOURCE` is a folder with the original somewhere below it, `SVA_LIB` the folder of `libsva_c.a`. Both are relative to this folder.
+use std::env;
+use std::fs;
+use std::path::{Path, PathBuf};
+use std::process::Command;
+
+/// The files of the original that hold the part taken over (01, "The part we take").
+const FILES: [&str; 3] = ["sva_ast", "sva_seq", "sva_fsm"];
+
+fn main() {
+    let out = PathBuf::from(env::var("OUT_DIR").expect("OUT_DIR"));
+    include_original(&folder("SVA_SOURCE", "../../shared/docs/src"), &out);
+    link_archive(&folder("SVA_LIB", "../target/staticlib"));
+    compile_interpreter(&out);
+}
+
+/// The folder that a variable names, else the default one.
+fn folder(variable: &str, default: &str) -> PathBuf {
+    println!("cargo:rerun-if-env-changed={variable}");
+    let here = PathBuf::from(env::var("CARGO_MANIFEST_DIR").expect("CARGO_MANIFEST_DIR"));
+    here.join(env::var(variable).unwrap_or_else(|_| default.to_string()))
+}
+
+/// Writes a module file that names the original's files by their paths, so that they are compiled as they are.
+fn include_original(source: &Path, out: &Path) {
+    let mut modules = String::new();
+    for name in FILES {
+        let Some(path) = found(source, &format!("{name}.rs")) else {
+            panic!("no {name}.rs below {}: set SVA_SOURCE", source.display());
+        };
+        println!("cargo:rerun-if-changed={}", path.display());
+        modules += &format!("#[path = {path:?}]\n#[allow(dead_code)]\nmod {name};\n#[allow(unused_imports)]\nuse {name}::*;\n");
+    }
+    fs::write(out.join("original_files.rs"), modules).expect("a module file");
+}
+
+/// The first file of that name below a folder.
+fn found(folder: &Path, name: &str) -> Option<PathBuf> {
+    let mut folders = vec![folder.to_path_buf()];
+    while let Some(next) = folders.pop() {
+        for entry in fs::read_dir(&next).ok()?.flatten() {
+            let path = entry.path();
+            if path.is_dir() {
+                folders.push(path);
+            } else if entry.file_name() == name {
+                return path.canonicalize().ok();
+            }
+        }
+    }
+    None
+}
+
+/// Links this project's archive.
+fn link_archive(library: &Path) {
+    let archive = library.join("libsva_c.a");
+    assert!(archive.is_file(), "no {}: set SVA_LIB", archive.display());
+    println!("cargo:rerun-if-changed={}", archive.display());
+    println!("cargo:rustc-link-search=native={}", library.display());
+    println!("cargo:rustc-link-lib=static=sva_c");
+}
+
+/// Compiles and links the interpreter that the benchmark holds the tick against.
+fn compile_interpreter(out: &Path) {
+    println!("cargo:rerun-if-changed=c/interpreter.c");
+    let object = out.join("interpreter.o");
+    let archive = out.join("libinterpreter.a");
+    let _ = fs::remove_file(&archive);
+    run(Command::new("gcc").args(["-std=c11", "-Wall", "-Wextra", "-O2", "-c", "c/interpreter.c", "-o"]).arg(&object));
+    run(Command::new("ar").arg("rcs").arg(&archive).arg(&object));
+    println!("cargo:rustc-link-search=native={}", out.display());
+    println!("cargo:rustc-link-lib=static=interpreter");
+}
+
+/// Runs a command that has to succeed.
+fn run(command: &mut Command) {
+    let status = command.status().expect("a command");
+    assert!(status.success(), "{command:?} failed");
+}

@@ -1,0 +1,14 @@
+//! The evidence from outside: this project's lowering beside the original Rust.
+//!
+//! `elaborate` compiles the original's files as they are and `original` asks them; `sva` calls this project's archive and looks at every
+//! lent buffer; `rules` decides each refusal anew, by document 01; `trees` makes the trees. The programs: `compare`,
+//! `differences`.
+pub mod elaborate;
+pub mod interpreter;
+pub mod limits;
+pub mod listing;
+pub mod original;
+pub mod rules;
+pub mod sizes;
+pub mod sva;
+pub mod trees;

@@ -1,3 +1,5 @@
+pub mod MatchesLookNoFurther
+pub mod RunsGoOn
 pub mod TheStandardIsMet
 pub mod EveryListingRuns
 pub mod Premises

@@ -1,19 +1,19 @@
--- DEMAND 3, of the shipped functions: from the contracts of `lower` and `tick` alone, whoever runs them as 01 says is answered
--- 1 exactly where a match of the tree ends, and 0 at every other tick. What is beside it here is read off the same contracts: the
--- words handed out are as described, the answer's numbers are counted in them, and no tick is refused.
+-- DEMAND 3, of the shipped functions: from the contracts of `lower` and `tick` alone, whoever runs them as 01 says, for however many
+-- ticks, is answered 1 exactly where a match of the tree ends, and 0 at every other tick. What is beside it here is read off the same
+-- contracts: the words handed out are as described, the answer's numbers are counted in them, and no tick is refused.
 --
--- It joins `lower-meets-the-standard` (crates/meaning/proofs/Demand3.antt), which speaks of the definitions, to the contracts.
+-- It joins `lower-meets-the-standard` (crates/meaning/proofs/Demand3.antt), which speaks of the definitions, to the contracts. That one
+-- speaks of runs without end; a run that stops is the beginning of one, and which matches end at a tick is decided by then.
 use mathlib.Core.Bool.{Bool, true, false}
 use mathlib.Core.Path.{_≡_, refl, sym, ap, _∙_}
-use mathlib.Core.Logic.{_↔_, inl, inr}
+use mathlib.Core.Logic.{_↔_, Iff·trans, inl, inr}
 use mathlib.Core.List.{List}
-use Prim.Native.Nat.{ℕ}
+use Prim.Native.Nat.{ℕ, zero, suc, _≤_, _<_, min}
 use native.Mathlib.Omega.{arith}
 use lib.ListN.{length, take}
 use Rattle.meaning.specs.Tree.{root}
 use Rattle.meaning.specs.Listing.{registers as registers-in, deepest as deepest-in}
 use Rattle.meaning.specs.Check.{check}
-use Rattle.meaning.specs.Tick.{tick}
 use Rattle.meaning.specs.Lower.{synth-of, words-of, lower, output-after}
 use Rattle.meaning.specs.Demand3.{ThroughoutOnTop, trace, Running}
 use Rattle.meaning.specs.declared.Lowered.the-variants.{Listing}
@@ -27,6 +27,8 @@ use Rattle.meaning.proofs.Demand3 as definitions
 use Rattle.lower.specs.Answers.{Lowers}
 use Rattle.words.proofs.Laws.{front-written}
 use Rattle.demands.specs.Shipped.{RunsAsShipped, AMatchEnds, IsABit, MeetsTheStandard}
+use Rattle.demands.proofs.MatchesLookNoFurther.{matches-look-no-further}
+use Rattle.demands.proofs.RunsGoOn.{answer-from, registers-at, runs-alike}
 
 -- One call of `lower` that answered with a listing.
 module _ {tree work work′ out out′ : List ℕ} {registers words deepest : ℕ}
@@ -77,43 +79,85 @@ else-none : {P : Type 0} {answer : Ticked} → IsABit answer → (answer ≡ Mat
 else-none (inl e) one = (λ f p. not-both e f, λ no-match. absurd (no-match (one .0 e)))
 else-none (inr e) one = (λ f p. not-both (one .1 p) f, λ no-match. e)
 
--- A tree that is lowered and run.
-module _ {tree work work′ out out′ : List ℕ} {registers words deepest : ℕ} {cur atoms next next′ stack stack′ : ℕ → List ℕ} {answer : ℕ → Ticked}
-    (run : RunsAsShipped tree work work′ out out′ registers words deepest cur atoms next next′ stack stack′ answer) where
-  abbrev words-are : take words out′ ≡ words-of tree 0
+-- A tree that is lowered, and run for some ticks.
+module _ {ticks : ℕ} {tree work work′ out out′ : List ℕ} {registers words deepest : ℕ} {cur atoms next next′ stack stack′ : ℕ → List ℕ} {answer : ℕ → Ticked}
+    (run : RunsAsShipped ticks tree work work′ out out′ registers words deepest cur atoms next next′ stack stack′ answer) where
+  abbrev listing : List ℕ
+  listing = words-of tree 0
+
+  abbrev words-are : take words out′ ≡ listing
   words-are = the-words-handed-out-are-the-trees (run .lowered)
 
-  abbrev stacks : ℕ → ℕ
-  stacks n = length (stack n)
+  -- One of the ticks, and the run that is the same up to it, and goes on for good, on what was lent at this tick.
+  module _ (last : ℕ) (reached : last < ticks) where
+    abbrev atoms-on : ℕ → List ℕ
+    atoms-on n = atoms (min n last)
 
-  -- Tick's answer, from the words of the definitions.
-  answered : (n : ℕ) → answer n ≡ tick (words-of tree 0) (cur n) (atoms n) (length (next n)) (stacks n)
-  answered n = run .ticked n .answer ∙ rw words-are refl
+    abbrev next-on : ℕ → List ℕ
+    next-on n = next (min n last)
 
-  -- To run as shipped is to run as the definitions say.
-  running : Running (words-of tree 0) atoms cur next stacks
-  running = record {
-    zeroed = rw (← words-are, ← the-registers-answered-are-counted (run .lowered)) (run .zeroed);
-    goes-on = λ n. run .goes-on n ∙ run .ticked n .next-holds ∙ rw (answered n, words-are) refl;
-    next-long = λ n. rw (← words-are, ← the-registers-answered-are-counted (run .lowered)) (run .next-long n);
-    stack-long = λ n. rw (← words-are, ← the-deepest-stack-answered-is-counted (run .lowered)) (run .stack-long n);
-    atoms-long = λ n. rw (← words-are) (run .atoms-long n);
-    atoms-bits = run .atoms-bits;
-  }
+    abbrev stack-on : ℕ → List ℕ
+    stack-on n = stack (min n last)
+
+    abbrev cur-on : ℕ → List ℕ
+    cur-on = registers-at listing atoms-on next-on stack-on (cur zero)
+
+    -- Up to that tick it is lent the same ..
+    lent-alike : (n : ℕ) → n ≤ last → min n last ≡ n
+    lent-alike n l = omega arith
+
+    -- .. so from the same registers it answers the same, ..
+    answers-alike : (n : ℕ) → n ≤ last → answer n ≡ answer-from listing atoms-on next-on stack-on (cur n) n
+    answers-alike n l = run .ticked n (omega arith) .answer ∙ rw (words-are, lent-alike n l) refl
+
+    -- .. and has the same registers.
+    registers-alike : (n : ℕ) → n ≤ last → cur n ≡ cur-on n
+    registers-alike =
+        runs-alike listing atoms-on next-on stack-on last cur (λ n l.
+        run .goes-on n (omega arith) ∙ run .ticked n (omega arith) .next-holds ∙ rw (answers-alike n (omega arith), words-are, lent-alike n (omega arith)) refl)
+
+    -- It runs as the definitions say.
+    running : Running listing atoms-on cur-on next-on (λ n. length (stack-on n))
+    running = record {
+      zeroed = rw (← words-are, ← the-registers-answered-are-counted (run .lowered)) (run .zeroed);
+      goes-on = λ n. refl;
+      next-long = λ n. rw (← words-are, ← the-registers-answered-are-counted (run .lowered)) (run .next-long (min n last) (omega arith));
+      stack-long = λ n. rw (← words-are, ← the-deepest-stack-answered-is-counted (run .lowered)) (run .stack-long (min n last) (omega arith));
+      atoms-long = λ n. rw (← words-are) (run .atoms-long (min n last) (omega arith));
+      atoms-bits = λ n. run .atoms-bits (min n last) (omega arith);
+    }
+
+    -- At that tick it gives the run's answer, ..
+    answered : answer last ≡ answer-from listing atoms-on next-on stack-on (cur-on last) last
+    answered = answers-alike last (omega arith) ∙ rw (registers-alike last (omega arith)) refl
+
+    -- .. and up to it the same atoms hold.
+    traces-alike : (n a : ℕ) → n ≤ last → trace atoms-on n a ≡ trace atoms n a
+    traces-alike n a l = rw (lent-alike n l) refl
 
   -- No tick is refused: buffers of the counted sizes are enough.
-  pub no-tick-is-refused : (n : ℕ) → IsABit (answer n)
-  no-tick-is-refused n =
+  pub no-tick-is-refused : (n : ℕ) → n < ticks → IsABit (answer n)
+  no-tick-is-refused n l =
       rw (
-        answered n,
-        definitions.an-accepted-listing-is-never-refused tree (length work) (length out) registers words deepest (accepted (run .lowered)) atoms cur next stacks running n,
+        answered n l,
+        definitions.an-accepted-listing-is-never-refused tree (length work) (length out) registers words deepest (accepted (run .lowered))
+            (atoms-on n l) (cur-on n l) (next-on n l) (λ k. length (stack-on n l k)) (running n l) n,
       )
-      (a-bit-is-a-bit (val (synth-of tree 0 .cur) (trace cur n) (trace atoms n)))
+      (a-bit-is-a-bit (val (synth-of tree 0 .cur) (trace (cur-on n l) n) (trace (atoms-on n l) n)))
 
   -- DEMAND 3.
-  pub lower-and-tick-meet-the-standard : ThroughoutOnTop (root tree) → (n : ℕ) → MeetsTheStandard tree atoms n (answer n)
-  lower-and-tick-meet-the-standard top n =
+  pub lower-and-tick-meet-the-standard : ThroughoutOnTop (root tree) → (n : ℕ) → n < ticks → MeetsTheStandard tree atoms n (answer n)
+  lower-and-tick-meet-the-standard top n l =
       let one : (answer n ≡ MatchBit 1) ↔ AMatchEnds tree atoms n =
-      rw (answered n)
-      (definitions.lower-meets-the-standard tree (length work) (length out) registers words deepest (accepted (run .lowered)) atoms cur next stacks running top n) in
-      record { one = one; none = else-none (no-tick-is-refused n) one; a-bit = no-tick-is-refused n }
+      Iff·trans
+      (rw (answered n l)
+      (definitions.lower-meets-the-standard tree (length work) (length out) registers words deepest (accepted (run .lowered))
+      (atoms-on n l) (cur-on n l) (next-on n l) (λ k. length (stack-on n l k)) (running n l) top n))
+      (matches-look-no-further (trace (atoms-on n l)) (trace atoms) n (traces-alike n l) (root tree)) in
+      record { one = one; none = else-none (no-tick-is-refused n l) one; a-bit = no-tick-is-refused n l }
+
+-- A run without end is one of every number of ticks, and at every tick its answer meets the standard.
+pub an-endless-run-meets-the-standard : {tree work work′ out out′ : List ℕ} {registers words deepest : ℕ} {cur atoms next next′ stack stack′ : ℕ → List ℕ} {answer : ℕ → Ticked}
+    → ((ticks : ℕ) → RunsAsShipped ticks tree work work′ out out′ registers words deepest cur atoms next next′ stack stack′ answer)
+    → ThroughoutOnTop (root tree) → (n : ℕ) → MeetsTheStandard tree atoms n (answer n)
+an-endless-run-meets-the-standard run top n = lower-and-tick-meet-the-standard (run (suc n)) top n (omega arith)

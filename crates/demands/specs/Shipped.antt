@@ -5,7 +5,7 @@
 use mathlib.Core.Path.{_≡_}
 use mathlib.Core.Logic.{_↔_, _⊎_}
 use mathlib.Core.List.{List}
-use Prim.Native.Nat.{ℕ, zero, suc, _≤_}
+use Prim.Native.Nat.{ℕ, zero, suc, _≤_, _<_}
 use lib.ListN.{length, getD, take, replicate}
 use Rattle.meaning.specs.Tree.{root}
 use Rattle.meaning.specs.Match.{Match}
@@ -17,23 +17,23 @@ use Rattle.meaning.specs.declared.Ticked.the-variants.{Match as MatchBit}
 use Rattle.lower.specs.Answers.{Lowers}
 use Rattle.tick.specs.Stepped.{Stepped}
 
--- A tree is lowered once, and its listing is ticked for good. What stands at tick n is cur n, and so for all that is lent then;
--- a name with a prime is what was lent, after the call.
-pub record RunsAsShipped (tree work work′ out out′ : List ℕ) (registers words deepest : ℕ) (cur atoms next next′ stack stack′ : ℕ → List ℕ)
-    (answer : ℕ → Ticked) : Type 0 where
+-- A tree is lowered once, and its listing is ticked so many times; a run without end is one of every number of ticks. What stands
+-- at tick n is cur n, and so for all that is lent then; a name with a prime is what was lent, after the call.
+pub record RunsAsShipped (ticks : ℕ) (tree work work′ out out′ : List ℕ) (registers words deepest : ℕ)
+    (cur atoms next next′ stack stack′ : ℕ → List ℕ) (answer : ℕ → Ticked) : Type 0 where
   -- The contract of `lower`, at an answer that is a listing.
   pub lowered : Lowers tree 0 work out (Listing registers words deepest) work′ out′
   -- The contract of `tick`, at each tick, for the words that were handed out.
-  pub ticked : (n : ℕ) → Stepped (take words out′) (cur n) (atoms n) (next n) (next′ n) (stack n) (stack′ n) (answer n)
+  pub ticked : (n : ℕ) → n < ticks → Stepped (take words out′) (cur n) (atoms n) (next n) (next′ n) (stack n) (stack′ n) (answer n)
   -- The registers are zero at tick 0, and at each later tick as the one before left them.
   pub zeroed : take registers (cur zero) ≡ replicate registers 0
-  pub goes-on : (n : ℕ) → cur (suc n) ≡ next′ n
+  pub goes-on : (n : ℕ) → suc n < ticks → cur (suc n) ≡ next′ n
   -- What is lent has the sizes that the answer counts, and an atom for each that the words name.
-  pub next-long : (n : ℕ) → registers ≤ length (next n)
-  pub stack-long : (n : ℕ) → deepest ≤ length (stack n)
-  pub atoms-long : (n : ℕ) → atoms-named (take words out′) ≤ length (atoms n)
+  pub next-long : (n : ℕ) → n < ticks → registers ≤ length (next n)
+  pub stack-long : (n : ℕ) → n < ticks → deepest ≤ length (stack n)
+  pub atoms-long : (n : ℕ) → n < ticks → atoms-named (take words out′) ≤ length (atoms n)
   -- Each atom's byte is 0 or 1.
-  pub atoms-bits : (n a : ℕ) → getD (atoms n) a 0 ≤ 1
+  pub atoms-bits : (n : ℕ) → n < ticks → (a : ℕ) → getD (atoms n) a 0 ≤ 1
 
 -- Some match of the tree, as the standard defines it, began at tick 0 or later and ends at tick n.
 abbrev pub AMatchEnds : List ℕ → (ℕ → List ℕ) → ℕ → Type 0

@@ -2,7 +2,7 @@
 //!
 //! `elaborate` compiles the original's files as they are and `original` asks them; `sva` calls this project's archive and looks at every
 //! lent buffer; `rules` decides each refusal anew, by document 01; `trees` makes the trees. The programs: `compare`,
-//! `differences`.
+//! `bench`, `differences`.
 pub mod elaborate;
 pub mod interpreter;
 pub mod limits;

@@ -102,6 +102,14 @@ pub fn lower(sequence: &Sequence, limit: usize, stop_at_diagnostic: bool) -> Out
     }
 }
 
+/// The original's lowering and nothing else, for timing.
+pub fn lower_unwatched(sequence: &Sequence) -> Lowering {
+    let mut elaborator = Elaborator::new(usize::MAX, false);
+    let mut assignments = Vec::new();
+    let matched = elaborator.synth_seq_match(sequence, &mut SvaRegs, &mut assignments, Span);
+    Lowering { assignments, matched }
+}
+
 /// The original's alternatives of a sequence, unless it diagnoses.
 pub(crate) fn alternatives(sequence: &Sequence) -> Option<Vec<SeqAlt>> {
     ask(0, true, |elaborator| elaborator.expand_sequence(sequence, &mut SvaRegs)).ok()

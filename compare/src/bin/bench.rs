@@ -1,0 +1,138 @@
+//! Times this project beside others, on the same inputs, in one run of three repetitions that take turns: its lowering beside the original's
+//! `synth_seq_match`, its tick beside a plain interpreter in C. The best repetition of each counts.
+//!
+//! Of the original its lowering call alone is timed, with its own expansion; making its syntax tree and dropping what it returns is
+//! not. Here work is lent as long as the tree needs it and output as long as the listing is; the tree is read from its words.
+use compare::listing::{self, Counts};
+use compare::original::{self, UNLIMITED};
+use compare::trees::{atom, balanced, consecutive, delay, nonconsecutive, Random};
+use compare::{interpreter, rules, sva};
+use std::hint::black_box;
+use std::time::{Duration, Instant};
+
+/// How often each row is measured, and for how long at least.
+const REPETITIONS: usize = 3;
+const LEAST: Duration = Duration::from_millis(200);
+
+/// So many calls, and how long they took.
+type Batch<'a> = &'a mut dyn FnMut(usize) -> Duration;
+
+/// Nanoseconds a call of each, the best of three repetitions, which take turns.
+fn best<const N: usize>(mut batches: [Batch; N]) -> [f64; N] {
+    let mut best = [f64::MAX; N];
+    let calls = batches.each_mut().map(enough);
+    for _ in 0..REPETITIONS {
+        for (i, batch) in batches.iter_mut().enumerate() {
+            best[i] = best[i].min(batch(calls[i]).as_nanos() as f64 / calls[i] as f64);
+        }
+    }
+    best
+}
+
+/// How many calls take long enough to be measured.
+fn enough(batch: &mut Batch) -> usize {
+    let mut calls = 1;
+    loop {
+        let taken = batch(calls);
+        if taken >= LEAST {
+            return calls;
+        }
+        calls *= if taken * 20 < LEAST { 10 } else { 2 };
+    }
+}
+
+/// A tree lowered here, and by the original.
+fn lowering(name: &str, tree: &[u32]) {
+    let decided = rules::decided(tree, 16 * rules::ENTRIES as usize, usize::MAX);
+    let sizes = decided.answer.expect("an accepted tree");
+    let mut work = vec![0; 16 * decided.most_entries as usize];
+    let mut out = vec![0; sizes.words as usize];
+    let mut lowered_here = |calls| {
+        let start = Instant::now();
+        for _ in 0..calls {
+            let (number, ..) = sva::lower(black_box(tree), &mut work, &mut out);
+            assert_eq!(number, 0);
+        }
+        start.elapsed()
+    };
+    let sequence = original::sequence(tree);
+    let mut lowered_there = |calls| {
+        let mut taken = Duration::ZERO;
+        for _ in 0..calls {
+            let start = Instant::now();
+            let lowered = black_box(original::lower_unwatched(black_box(&sequence)));
+            taken += start.elapsed();
+            drop(lowered);
+        }
+        taken
+    };
+    let [here, there] = best([&mut lowered_here, &mut lowered_there]);
+    assert!(original::lower_unwatched(&sequence).words() == out, "the same words");
+    let Counts { registers, words, .. } = listing::counts(&out);
+    println!("| {name} | {registers} | {words} | {here:.0} | {there:.0} | {:.3} |", here / there);
+}
+
+/// A tick: of the registers now and the atoms, into the registers next, with a stack.
+type Tick<'a> = dyn Fn(&[u8], &[u8], &mut [u8], &mut [u8]) -> u8 + 'a;
+
+/// One tick after another over random atoms: here, in C checked once, in C checked at every tick.
+fn ticking(name: &str, tree: &[u32]) {
+    let decided = rules::decided(tree, 16 * rules::ENTRIES as usize, usize::MAX);
+    let mut words = vec![0; decided.answer.expect("an accepted tree").words as usize];
+    let mut work = vec![0; 16 * decided.most_entries as usize];
+    let (_, Counts { registers, words: count, deepest }, _) = sva::lower(tree, &mut work, &mut words);
+    let mut random = Random(77);
+    let atoms: Vec<[u8; 3]> = (0..1024).map(|_| [0; 3].map(|_: u8| random.below(2) as u8)).collect();
+    let run = |calls: usize, tick: &Tick| {
+        let (mut now, mut next, mut stack) = (vec![0; registers], vec![0; registers], vec![0; deepest]);
+        let start = Instant::now();
+        for call in 0..calls {
+            black_box(tick(&now, &atoms[call % 1024], &mut next, &mut stack));
+            std::mem::swap(&mut now, &mut next);
+        }
+        start.elapsed()
+    };
+    let mut ticked_here = |calls| {
+        run(calls, &|now, atoms, next, stack| {
+            let (number, matched, _) = sva::tick(&words, now, atoms, next, stack);
+            assert_eq!(number, 0);
+            matched
+        })
+    };
+    // Safety: a listing that was lowered passes the check, with buffers as long as its counts.
+    let mut once = |calls| run(calls, &|now, atoms, next, stack| unsafe { interpreter::tick(&words, now, atoms, next, stack) });
+    let mut every = |calls| {
+        run(calls, &|now, atoms, next, stack| {
+            assert!(interpreter::check(&words, now, atoms, next.len(), stack.len()).is_ok());
+            // Safety: the check is Ok.
+            unsafe { interpreter::tick(&words, now, atoms, next, stack) }
+        })
+    };
+    let [here, once, every] = best([&mut ticked_here, &mut once, &mut every]);
+    println!("| {name} | {registers} | {count} | {here:.1} | {once:.1} | {every:.1} | {:.2} | {:.2} |", here / once, here / every);
+}
+
+/// All rows, on a stack that is large enough for the original's expressions.
+fn rows() {
+    let (a, b, c) = (atom(0), atom(1), atom(2));
+    let typical = delay(&delay(&a, &consecutive(&b, 1, 3), 1, 1), &c, 2, 2);
+    println!("| lowering | registers | words | here, ns | the original, ns | here / the original |\n|---|---|---|---|---|---|");
+    lowering("`a ##1 b`", &delay(&a, &b, 1, 1));
+    lowering("`a ##1 b[*1:3] ##2 c`", &typical);
+    lowering("`a ##[0:63] b`", &delay(&a, &b, 0, 63));
+    lowering("`a ##[0:255] b`", &delay(&a, &b, 0, 255));
+    lowering("`a[*1:256]`", &consecutive(&a, 1, 256));
+    lowering("`a[*256][*256]`", &consecutive(&consecutive(&a, 256, 256), 256, 256));
+    lowering("`a ##65536 b`", &delay(&a, &b, 65_536, 65_536));
+    lowering("1,365 `a[=1]`, `##[0:$]`", &balanced(&vec![nonconsecutive(&a, 1); 1365], 0, UNLIMITED));
+    println!("\n| tick | registers | words | here, ns | C checked once, ns | C checked at every tick, ns | here / once | here / every |");
+    println!("|---|---|---|---|---|---|---|---|");
+    ticking("`a ##1 b`", &delay(&a, &b, 1, 1));
+    ticking("`a ##1 b[*1:3] ##2 c`", &typical);
+    ticking("`a ##[0:63] b`", &delay(&a, &b, 0, 63));
+}
+
+fn main() {
+    let measured = std::thread::Builder::new().stack_size(1 << 30).spawn(rows);
+    measured.expect("a thread").join().expect("all rows");
+}

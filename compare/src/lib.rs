@@ -2,12 +2,13 @@
 //!
 //! `elaborate` compiles the original's files as they are and `original` asks them; `sva` calls this project's archive and looks at every
 //! lent buffer; `rules` decides each refusal anew, by document 01; `trees` makes the trees. The programs: `compare`,
-//! `bench`, `differences`.
+//! `bench`, `recorded`, `differences`.
 pub mod elaborate;
 pub mod interpreter;
 pub mod limits;
 pub mod listing;
 pub mod original;
+pub mod recorded;
 pub mod rules;
 pub mod sizes;
 pub mod sva;

@@ -23,7 +23,8 @@ use Rattle.meaning.specs.declared.SeqStep.{SeqStep}
 use Rattle.words.specs.Written.{Wrote}
 use Rattle.term.specs.Steps.{term-atom, nth-step, Stored}
 use Rattle.term.specs.Guards.{guard-words}
-use Rattle.current.specs.Text.{atom-word, registers-before, text-at}
+use Rattle.step_text.specs.Text.{atom-word}
+use Rattle.current.specs.Text.{registers-before, text-at}
 use Rattle.current.specs.Walk.{Ready}
 use Rattle.current.proofs.Bridge.{the-current-expression-is-the-text}
 use Rattle.choice.specs.RootText.{bool-of, lone-at, bare-or, bare-size-or, root-text}

@@ -8,7 +8,8 @@ use Rattle.words.specs.Choice.{pick}
 use Rattle.meaning.specs.declared.SeqTerm.{SeqTerm}
 use Rattle.meaning.specs.declared.SeqTerm.the-variants.{Bool as BoolTerm, Goto, Nonconsec, ConsecAtLeast, Empty}
 use Rattle.term.specs.Steps.{nth-step}
-use Rattle.current.specs.Text.{atom-word, text-at}
+use Rattle.step_text.specs.Text.{atom-word}
+use Rattle.current.specs.Text.{text-at}
 use Rattle.choice.specs.declared.Lone.{Lone}
 use Rattle.choice.specs.declared.Lone.the-variants.{Atom, Other}
 

@@ -86,7 +86,7 @@ fn root_text(steps: &[u32], guard: &[u32], last: usize, r: u32, out: &mut [u32],
     let Lone::Atom(a) = lone else {
         return current::current(steps, guard, last, r, out, at);
     };
-    words::put(out, at, current::ATOM + a)
+    words::put(out, at, step_text::ATOM + a)
 }
 
 // How many words that is; what the pipeline returns would have so many.
@@ -228,7 +228,7 @@ fn text_of(t: &[u32], n: u32, i: u32, x: u32, work: &mut [u32], out: &mut [u32],
 }
 
 // 01's operation that ends the match.
-const MATCH: u32 = 14 * current::ATOM;
+const MATCH: u32 = 14 * step_text::ATOM;
 
 // How many words stand behind the i-th text of so many.
 fn closing_length(count: u32, i: u32) -> u64
@@ -253,10 +253,10 @@ fn close(count: u32, i: u32, out: &mut [u32], at: usize) -> usize
         return at;
     }
     if i == 0 {
-        return words::put(out, at, current::ANY);
+        return words::put(out, at, step_text::ANY);
     }
-    let a = words::put(out, at, current::ANY);
-    words::put(out, a, current::OR)
+    let a = words::put(out, at, step_text::ANY);
+    words::put(out, a, step_text::OR)
 }
 
 // The i-th text with the words behind it.

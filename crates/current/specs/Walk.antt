@@ -1,31 +1,14 @@
 -- How `current` goes through the steps: back from the last one, writing prefixes, to a step whose text begins anew; then forth, writing suffixes.
 -- Example: after `a ##[0:$] b` the walk writes `r0` going back, `a0 any` at the first step, and `or a1 any and` going forth.
-use mathlib.Core.Path.{_≡_}
-use mathlib.Core.Bool.{Bool, true, false}
+use mathlib.Core.Bool.{Bool, false}
 use mathlib.Core.List.{List, [], _++_}
 use Prim.Native.Nat.{ℕ, zero, suc, _+_, _*_, _-_, _<_, _≤_}
 use lib.Dec.{eqb}
 use lib.ListN.{length}
 use Rattle.words.specs.Choice.{pick}
 use Rattle.term.specs.Steps.{term-atom, nth-step}
-use Rattle.meaning.specs.declared.SeqStep.{SeqStep}
-use Rattle.current.specs.Text.{reach, hop-registers, registers-at, registers-before, hop-keeps, term-keeps, hop-prefix, hop-suffix, term-prefix, term-suffix, hop-base, term-base, lead-text, text-at}
-
--- A later step's prefix, suffix and base: its term's around its hop's. r is the step's first register.
-unfoldable pub step-prefix : ℕ → SeqStep → List ℕ
-step-prefix r s = term-prefix (r + hop-registers (reach s)) (s .term) ++ hop-prefix r (reach s)
-
-unfoldable pub step-suffix : ℕ → SeqStep → List ℕ
-step-suffix r s = hop-suffix (reach s) ++ term-suffix (r + hop-registers (reach s)) (s .term)
-
-unfoldable pub step-base : List ℕ → ℕ → SeqStep → List ℕ
-step-base G r s =
-    let q = r + hop-registers (reach s) in
-    pick (term-keeps (s .term)) (term-prefix q (s .term) ++ (hop-base G r (reach s) ++ term-suffix q (s .term))) (term-base q (s .term))
-
--- A later step whose text does not hold the text before it.
-pub record BeginsAnew (s : SeqStep) : Type 0 where
-  pub anew : term-keeps (s .term) ≡ true → hop-keeps (reach s) ≡ false
+use Rattle.step_text.specs.Text.{reach, hop-keeps, term-keeps, lead-text, step-suffix, step-base}
+use Rattle.current.specs.Text.{registers-at, registers-before, text-at}
 
 -- Whether the text after the k-th step holds the text before it.
 unfoldable pub goes-on : List ℕ → ℕ → Bool

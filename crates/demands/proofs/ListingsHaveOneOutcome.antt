@@ -33,6 +33,7 @@ use Rattle.stretch.proofs.start as start
 use Rattle.text.proofs.text as text
 use Rattle.little_endian.proofs.read as read
 use Rattle.lowered_text.proofs.print as print
+use Rattle.lowered_text.proofs.print_input as print-input
 use Rattle.demands.specs.OneOutcome.{OneOutcomeUpTo, OneOutcome}
 use Rattle.demands.proofs.OneOutcome.{same-result, same-outcome-of-two, same, from-both, by-an-equation, by-writing, by-writing-and-a-bound}
 
@@ -116,3 +117,6 @@ module _ {M : Type 1} (𝓤 : URA M) (H : Heap 𝓤) (A : Atoms 𝓤) (mem : Mem
 
   pub lowered-text-print-has-one-outcome : OneOutcome 𝓤 print.ended (print.clauses 𝓤 H A mem run)
   lowered-text-print-has-one-outcome κs a g o o′ = by-writing-and-a-bound 𝓤 (λ page. (tt, (page, tt)))
+
+  pub lowered-text-print-input-has-one-outcome : OneOutcome 𝓤 print-input.ended (print-input.clauses 𝓤 H A mem run)
+  lowered-text-print-input-has-one-outcome κs a g o o′ = by-writing-and-a-bound 𝓤 (λ page. (tt, (page, tt)))

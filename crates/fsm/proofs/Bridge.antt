@@ -10,10 +10,10 @@ use Rattle.meaning.specs.Pipeline.{seed}
 use Rattle.meaning.specs.Listing.{expression-words, store-words}
 use Rattle.meaning.specs.declared.SeqTerm.{SeqTerm}
 use Rattle.meaning.specs.declared.SeqTerm.the-variants.{Bool as BoolTerm, Goto, Nonconsec, ConsecAtLeast, Empty}
-use Rattle.current.specs.Text.{atom-word, register-word, one-word, any-word, not-word, and-word, or-word, store-word}
+use Rattle.step_text.specs.Text.{atom-word, register-word, one-word, any-word, not-word, and-word, or-word, store-word}
 use Rattle.meaning.proofs.Members.{below-is-one-less}
 use Rattle.meaning.proofs.Emitted.{store-words-append}
-use Rattle.current.proofs.Bridge.{goto-fsm-count, take-term, term-words}
+use Rattle.step_text.proofs.Bridge.{goto-fsm-count, take-term, term-words}
 use Rattle.fsm.specs.Stores.{goto-stage-words, goto-store-words, nonconsec-store-words, run-stage-words, term-store-words}
 
 goto-stages-stores : (b k n : ℕ) (avail : Expr) → store-words n (goto-stages b n k avail .stores) ≡ goto-stage-words b n k (expression-words avail)

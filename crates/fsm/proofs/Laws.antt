@@ -12,8 +12,8 @@ use Rattle.term.specs.Steps.{term-atom}
 use Rattle.meaning.specs.Expression.{gto, ncx, crl}
 use Rattle.meaning.specs.declared.SeqTerm.{SeqTerm}
 use Rattle.meaning.specs.declared.SeqTerm.the-variants.{Nonconsec}
-use Rattle.current.specs.Text.{atom-word, register-word, any-word, not-word, and-word, or-word, store-word, at-least-one, term-registers, term-text}
-use Rattle.current.proofs.Laws.{at-least-some, at-least-itself}
+use Rattle.step_text.specs.Text.{atom-word, register-word, any-word, not-word, and-word, or-word, store-word, at-least-one, term-registers, term-text}
+use Rattle.step_text.proofs.Laws.{at-least-some, at-least-itself}
 use Rattle.fsm.specs.Stores.{goto-stage-words, goto-store-words, nonconsec-store-words, run-stage-words, term-store-words}
 
 -- An activation among words.

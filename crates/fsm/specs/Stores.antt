@@ -5,7 +5,7 @@ use Prim.Native.Nat.{ℕ, zero, suc, _+_, _-_}
 use Rattle.meaning.specs.Expression.{gto, ncx, crl}
 use Rattle.meaning.specs.declared.SeqTerm.{SeqTerm}
 use Rattle.meaning.specs.declared.SeqTerm.the-variants.{Bool as BoolTerm, Goto, Nonconsec, ConsecAtLeast, Empty}
-use Rattle.current.specs.Text.{atom-word, register-word, any-word, not-word, and-word, or-word, store-word, at-least-one, term-text}
+use Rattle.step_text.specs.Text.{atom-word, register-word, any-word, not-word, and-word, or-word, store-word, at-least-one, term-text}
 
 -- "reg_s <= (b & avail_{s-1}) | (~b & reg_s)": k registers from r on, the first of them over avail.
 unfoldable pub goto-stage-words : ℕ → ℕ → ℕ → List ℕ → List ℕ

@@ -9,15 +9,16 @@ ghost use Rattle.words.specs.Written.{Wrote};
 ghost use Rattle.meaning.specs.Expression.{gto, ncx, crl};
 ghost use Rattle.meaning.specs.declared.SeqTerm.the-variants.{Nonconsec};
 ghost use Rattle.term.specs.Steps.{term-atom};
-ghost use Rattle.current.specs.Text.{atom-word, register-word, one-word, any-word, not-word, and-word, or-word, store-word, at-least-one, term-registers, term-text, activation-at};
+ghost use Rattle.step_text.specs.Text.{atom-word, register-word, one-word, any-word, not-word, and-word, or-word, store-word, at-least-one, term-registers, term-text};
+ghost use Rattle.current.specs.Text.{activation-at};
 ghost use Rattle.current.specs.Walk.{Ready};
 ghost use Rattle.fsm.specs.Stores.{goto-stage-words, goto-store-words, nonconsec-store-words, run-stage-words, term-store-words};
 
-const GTO: u32 = 11 * current::ATOM;
+const GTO: u32 = 11 * step_text::ATOM;
 
-const NCX: u32 = 12 * current::ATOM;
+const NCX: u32 = 12 * step_text::ATOM;
 
-const CRL: u32 = 13 * current::ATOM;
+const CRL: u32 = 13 * step_text::ATOM;
 
 // The first register of a goto: avail_0 & ~b.
 fn goto_first(
@@ -33,15 +34,15 @@ fn goto_first(
     requires { ⌜ Ready (now steps) k r × (b < 65536) × (q < 65536) × (at + (7 + length (activation-at (now steps) (now guard) k r)) ≤ length (now out)) ⌝ }
     ensures { λ p. ⌜ Wrote (now (out .entry)) (now (out .exit)) at p (register-word q ∷ (activation-at (now (steps .entry)) (now (guard .entry)) k r ++ (or-word ∷ atom-word b ∷ any-word ∷ not-word ∷ and-word ∷ store-word gto q ∷ []))) ⌝ }
 {
-    let x = words::put(out, at, current::REGISTER + q);
+    let x = words::put(out, at, step_text::REGISTER + q);
     let y = current::activation(steps, guard, k, r, out, x);
-    current::copied(
+    words::copied(
         &[
-            current::OR,
-            current::ATOM + b,
-            current::ANY,
-            current::NOT,
-            current::AND,
+            step_text::OR,
+            step_text::ATOM + b,
+            step_text::ANY,
+            step_text::NOT,
+            step_text::AND,
             GTO + q,
         ],
         out,
@@ -63,22 +64,22 @@ fn goto_second(
     requires { ⌜ Ready (now steps) k r × (b < 65536) × (q + 1 < 65536) × (at + (12 + length (activation-at (now steps) (now guard) k r)) ≤ length (now out)) ⌝ }
     ensures { λ p. ⌜ Wrote (now (out .entry)) (now (out .exit)) at p (atom-word b ∷ any-word ∷ register-word q ∷ (activation-at (now (steps .entry)) (now (guard .entry)) k r ++ (or-word ∷ and-word ∷ atom-word b ∷ any-word ∷ not-word ∷ register-word (q + 1) ∷ and-word ∷ or-word ∷ store-word gto (q + 1) ∷ []))) ⌝ }
 {
-    let x = current::copied(
-        &[current::ATOM + b, current::ANY, current::REGISTER + q],
+    let x = words::copied(
+        &[step_text::ATOM + b, step_text::ANY, step_text::REGISTER + q],
         out,
         at,
     );
     let y = current::activation(steps, guard, k, r, out, x);
-    current::copied(
+    words::copied(
         &[
-            current::OR,
-            current::AND,
-            current::ATOM + b,
-            current::ANY,
-            current::NOT,
-            current::REGISTER + (q + 1),
-            current::AND,
-            current::OR,
+            step_text::OR,
+            step_text::AND,
+            step_text::ATOM + b,
+            step_text::ANY,
+            step_text::NOT,
+            step_text::REGISTER + (q + 1),
+            step_text::AND,
+            step_text::OR,
             GTO + (q + 1),
         ],
         out,
@@ -91,18 +92,18 @@ fn goto_next(b: u32, r: u32, out: &mut [u32], at: usize) -> usize
     requires { ⌜ (at + 11 ≤ length (now out)) × (b < 65536) × (0 < r) × (r < 65536) ⌝ }
     ensures { λ p. ⌜ Wrote (now (out .entry)) (now (out .exit)) at p (atom-word b ∷ any-word ∷ register-word (r - 1) ∷ and-word ∷ atom-word b ∷ any-word ∷ not-word ∷ register-word r ∷ and-word ∷ or-word ∷ store-word gto r ∷ []) ⌝ }
 {
-    current::copied(
+    words::copied(
         &[
-            current::ATOM + b,
-            current::ANY,
-            current::REGISTER + (r - 1),
-            current::AND,
-            current::ATOM + b,
-            current::ANY,
-            current::NOT,
-            current::REGISTER + r,
-            current::AND,
-            current::OR,
+            step_text::ATOM + b,
+            step_text::ANY,
+            step_text::REGISTER + (r - 1),
+            step_text::AND,
+            step_text::ATOM + b,
+            step_text::ANY,
+            step_text::NOT,
+            step_text::REGISTER + r,
+            step_text::AND,
+            step_text::OR,
             GTO + r,
         ],
         out,
@@ -161,12 +162,12 @@ fn matched(
     requires { ⌜ Ready (now steps) k r × (term-atom x < 65536) × (q + term-registers x ≤ 65536) × (at + length (term-text q x (activation-at (now steps) (now guard) k r)) ≤ length (now out)) ⌝ }
     ensures { λ p. ⌜ Wrote (now (out .entry)) (now (out .exit)) at p (term-text q x (activation-at (now (steps .entry)) (now (guard .entry)) k r)) ⌝ }
 {
-    if current::term_keeps(x) {
-        let a = current::term_prefix(x, q, out, at);
+    if step_text::term_keeps(x) {
+        let a = step_text::term_prefix(x, q, out, at);
         let c = current::activation(steps, guard, k, r, out, a);
-        return current::term_suffix(x, q, out, c);
+        return step_text::term_suffix(x, q, out, c);
     }
-    current::term_base(x, q, out, at)
+    step_text::term_base(x, q, out, at)
 }
 
 // The extension of a nonconsecutive match: ext <= cur, into register e.
@@ -184,7 +185,7 @@ fn extension(
     requires { ⌜ Ready (now steps) k r × (b < 65536) × (q + at-least-one count + 1 ≤ 65536) × (at + (1 + length (term-text q (Nonconsec b count) (activation-at (now steps) (now guard) k r))) ≤ length (now out)) ⌝ }
     ensures { λ p. ⌜ Wrote (now (out .entry)) (now (out .exit)) at p (term-text q (Nonconsec b count) (activation-at (now (steps .entry)) (now (guard .entry)) k r) ++ (store-word ncx (q + at-least-one count) ∷ [])) ⌝ }
 {
-    let m = current::at_least_one(count);
+    let m = step_text::at_least_one(count);
     let a = matched(
         steps,
         guard,
@@ -232,13 +233,13 @@ fn run_only(
     ensures { λ p. ⌜ Wrote (now (out .entry)) (now (out .exit)) at p (activation-at (now (steps .entry)) (now (guard .entry)) k r ++ (register-word q ∷ or-word ∷ atom-word b ∷ any-word ∷ and-word ∷ store-word crl q ∷ [])) ⌝ }
 {
     let x = current::activation(steps, guard, k, r, out, at);
-    current::copied(
+    words::copied(
         &[
-            current::REGISTER + q,
-            current::OR,
-            current::ATOM + b,
-            current::ANY,
-            current::AND,
+            step_text::REGISTER + q,
+            step_text::OR,
+            step_text::ATOM + b,
+            step_text::ANY,
+            step_text::AND,
             CRL + q,
         ],
         out,
@@ -261,8 +262,8 @@ fn run_first(
     ensures { λ p. ⌜ Wrote (now (out .entry)) (now (out .exit)) at p (activation-at (now (steps .entry)) (now (guard .entry)) k r ++ (atom-word b ∷ any-word ∷ and-word ∷ store-word crl q ∷ [])) ⌝ }
 {
     let x = current::activation(steps, guard, k, r, out, at);
-    current::copied(
-        &[current::ATOM + b, current::ANY, current::AND, CRL + q],
+    words::copied(
+        &[step_text::ATOM + b, step_text::ANY, step_text::AND, CRL + q],
         out,
         x,
     )
@@ -273,12 +274,12 @@ fn run_next(b: u32, r: u32, out: &mut [u32], at: usize) -> usize
     requires { ⌜ (at + 5 ≤ length (now out)) × (b < 65536) × (0 < r) × (r < 65536) ⌝ }
     ensures { λ p. ⌜ Wrote (now (out .entry)) (now (out .exit)) at p (register-word (r - 1) ∷ atom-word b ∷ any-word ∷ and-word ∷ store-word crl r ∷ []) ⌝ }
 {
-    current::copied(
+    words::copied(
         &[
-            current::REGISTER + (r - 1),
-            current::ATOM + b,
-            current::ANY,
-            current::AND,
+            step_text::REGISTER + (r - 1),
+            step_text::ATOM + b,
+            step_text::ANY,
+            step_text::AND,
             CRL + r,
         ],
         out,
@@ -291,14 +292,14 @@ fn run_top(b: u32, r: u32, out: &mut [u32], at: usize) -> usize
     requires { ⌜ (at + 7 ≤ length (now out)) × (b < 65536) × (0 < r) × (r < 65536) ⌝ }
     ensures { λ p. ⌜ Wrote (now (out .entry)) (now (out .exit)) at p (register-word (r - 1) ∷ register-word r ∷ or-word ∷ atom-word b ∷ any-word ∷ and-word ∷ store-word crl r ∷ []) ⌝ }
 {
-    current::copied(
+    words::copied(
         &[
-            current::REGISTER + (r - 1),
-            current::REGISTER + r,
-            current::OR,
-            current::ATOM + b,
-            current::ANY,
-            current::AND,
+            step_text::REGISTER + (r - 1),
+            step_text::REGISTER + r,
+            step_text::OR,
+            step_text::ATOM + b,
+            step_text::ANY,
+            step_text::AND,
             CRL + r,
         ],
         out,

@@ -111,7 +111,7 @@ fn ored(n: u32, d: u32, out: &mut [u32], at: usize) -> usize
     let mut p = at;
     let mut k = 0;
     while k < d {
-        p = current::copied(&[current::REGISTER + (n + k), current::OR], out, p);
+        p = words::copied(&[step_text::REGISTER + (n + k), step_text::OR], out, p);
         k += 1;
     }
     p
@@ -160,11 +160,11 @@ fn closed(before: usize, out: &mut [u32], at: usize) -> usize
     requires { ⌜ at + length (word 7 0 ∷ joining before) ≤ length (now out) ⌝ }
     ensures { λ p. ⌜ Wrote (now (out .entry)) (now (out .exit)) at p (word 7 0 ∷ joining before) ⌝ }
 {
-    let a = words::put(out, at, current::AND);
+    let a = words::put(out, at, step_text::AND);
     if before == 0 {
         return a;
     }
-    words::put(out, a, current::OR)
+    words::put(out, a, step_text::OR)
 }
 
 // The text of a pair: two's, whose registers begin with m, and one's, whose begin with n.

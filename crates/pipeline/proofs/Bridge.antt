@@ -17,8 +17,10 @@ use Rattle.meaning.specs.declared.SeqStep.{SeqStep}
 use Rattle.meaning.proofs.Emitted.{store-words-append}
 use Rattle.term.specs.Guards.{guard-words}
 use Rattle.term.specs.Steps.{nth-step, Stored}
-use Rattle.current.specs.Text.{register-word, or-word, one-word, store-word, reach, hop-registers, registers-at, registers-before, hop-text, text-at, activation-at}
-use Rattle.current.proofs.Bridge.{guarded-words, delays-count, delays-words, hop-count, hop-words, take-term, later-parts, register-next, the-words-of-a-step, step-count, first-words, first-count}
+use Rattle.step_text.specs.Text.{register-word, or-word, one-word, store-word, reach, hop-registers, hop-text}
+use Rattle.current.specs.Text.{registers-at, registers-before, text-at, activation-at}
+use Rattle.step_text.proofs.Bridge.{guarded-words, delays-count, delays-words, hop-count, hop-words, take-term, later-parts}
+use Rattle.current.proofs.Bridge.{register-next, the-words-of-a-step, step-count, first-words, first-count}
 use Rattle.fsm.specs.Stores.{term-store-words}
 use Rattle.fsm.proofs.Bridge.{term-stores, seed-stores}
 use Rattle.pipeline.specs.Stores.{delay-store-words, hop-store-words, step-store-words, store-words-after, alternative-store-words}

@@ -16,9 +16,10 @@ use Rattle.meaning.specs.Expression.{seq, arm}
 use Rattle.meaning.specs.declared.SeqHop.{SeqHop}
 use Rattle.meaning.specs.declared.SeqHop.the-variants.{AtLeast}
 use Rattle.meaning.specs.declared.SeqStep.{SeqStep}
-use Rattle.current.specs.Text.{register-word, or-word, one-word, store-word, reach, hop-registers, term-registers, step-registers, registers-at, registers-before, activation-at}
+use Rattle.step_text.specs.Text.{register-word, or-word, one-word, store-word, reach, hop-registers, term-registers, step-registers}
+use Rattle.current.specs.Text.{registers-at, registers-before, activation-at}
 use Rattle.current.specs.Walk.{text-before, Ready}
-use Rattle.current.proofs.Laws.{at-least-some, at-least-itself}
+use Rattle.step_text.proofs.Laws.{at-least-some, at-least-itself}
 use Rattle.current.proofs.Walk.{registers-more, registers-less, registers-grow, later-registers, lead-registers}
 use Rattle.fsm.specs.Stores.{term-store-words}
 use Rattle.pipeline.specs.Stores.{delay-store-words, hop-store-words, step-store-words, store-words-after, alternative-store-words, ReadyAll}

@@ -9,7 +9,8 @@ use Rattle.term.specs.Steps.{term-atom, nth-step}
 use Rattle.meaning.specs.Expression.{seq, arm}
 use Rattle.meaning.specs.declared.SeqHop.{SeqHop}
 use Rattle.meaning.specs.declared.SeqHop.the-variants.{Fixed, AtLeast}
-use Rattle.current.specs.Text.{register-word, or-word, one-word, store-word, reach, hop-registers, registers-at, registers-before, activation-at}
+use Rattle.step_text.specs.Text.{register-word, or-word, one-word, store-word, reach, hop-registers}
+use Rattle.current.specs.Text.{registers-at, registers-before, activation-at}
 use Rattle.current.specs.Walk.{text-before}
 use Rattle.fsm.specs.Stores.{term-store-words}
 

@@ -9,7 +9,8 @@ ghost use lib.ListN.{length};
 ghost use Rattle.words.specs.Written.{Wrote};
 ghost use Rattle.meaning.specs.Expression.{seq, arm};
 ghost use Rattle.meaning.specs.declared.SeqHop.the-variants.{AtLeast};
-ghost use Rattle.current.specs.Text.{register-word, or-word, store-word, hop-registers, registers-before};
+ghost use Rattle.step_text.specs.Text.{register-word, or-word, store-word, hop-registers};
+ghost use Rattle.current.specs.Text.{registers-before};
 ghost use Rattle.current.specs.Walk.{text-before, Ready};
 ghost use mathlib.Core.Bool.{«false»};
 ghost use Rattle.meaning.specs.Refusals.{fixed-from-1, empties-fit, steps-fit};
@@ -18,17 +19,17 @@ ghost use Rattle.pipeline.specs.Fit.{hop-fits};
 ghost use Rattle.pipeline.specs.Stores.{delay-store-words, hop-store-words, step-store-words, store-words-after, alternative-store-words, ReadyAll};
 
 // 01's stores `seq` and `arm`, with argument 0.
-pub const SEQ: u32 = 9 * current::ATOM;
+pub const SEQ: u32 = 9 * step_text::ATOM;
 
-const ARM: u32 = 10 * current::ATOM;
+const ARM: u32 = 10 * step_text::ATOM;
 
 // `seq_delay_reg`: register r takes the one before, with the guard.
 fn delay(guard: &[u32], r: u32, out: &mut [u32], at: usize) -> usize
     requires { ⌜ (0 < r) × (r < 65536) × (at + (2 + length (now guard)) ≤ length (now out)) ⌝ }
     ensures { λ p. ⌜ Wrote (now (out .entry)) (now (out .exit)) at p (register-word (r - 1) ∷ (now (guard .entry) ++ (store-word seq r ∷ []))) ⌝ }
 {
-    let a = words::put(out, at, current::REGISTER + (r - 1));
-    let b = current::copied(guard, out, a);
+    let a = words::put(out, at, step_text::REGISTER + (r - 1));
+    let b = words::copied(guard, out, a);
     words::put(out, b, SEQ + r)
 }
 
@@ -73,9 +74,9 @@ fn latch(steps: &[u32], guard: &[u32], k: usize, r: u32, out: &mut [u32], at: us
     requires { ⌜ Ready (now steps) k r × (0 < k) × (r < 65536) × (at + (3 + length (text-before (now steps) (now guard) k r)) ≤ length (now out)) ⌝ }
     ensures { λ p. ⌜ Wrote (now (out .entry)) (now (out .exit)) at p (register-word r ∷ (text-before (now (steps .entry)) (now (guard .entry)) k r ++ (or-word ∷ store-word arm r ∷ []))) ⌝ }
 {
-    let a = words::put(out, at, current::REGISTER + r);
+    let a = words::put(out, at, step_text::REGISTER + r);
     let b = current::before(steps, guard, k, r, out, a);
-    current::copied(&[current::OR, ARM + r], out, b)
+    words::copied(&[step_text::OR, ARM + r], out, b)
 }
 
 // The latch after m - 1 delays.
@@ -92,11 +93,11 @@ fn late_latch(
     ensures { λ p. ⌜ Wrote (now (out .entry)) (now (out .exit)) at p (delay-store-words [] r (m - 1) (text-before (now (steps .entry)) (now (guard .entry)) k r) ++ (register-word (r + m - 1) ∷ register-word (r + m - 2) ∷ or-word ∷ store-word arm (r + m - 1) ∷ [])) ⌝ }
 {
     let a = fixed(steps, guard, &guard[..0], k, r, m - 1, out, at);
-    current::copied(
+    words::copied(
         &[
-            current::REGISTER + (r + m - 1),
-            current::REGISTER + (r + m - 2),
-            current::OR,
+            step_text::REGISTER + (r + m - 1),
+            step_text::REGISTER + (r + m - 2),
+            step_text::OR,
             ARM + (r + m - 1),
         ],
         out,
@@ -149,8 +150,8 @@ fn later(steps: &[u32], guard: &[u32], k: usize, r: u32, out: &mut [u32], at: us
 {
     let s = current::step(steps, k);
     let x = s.term;
-    let h = current::reach(s);
-    let q = current::term_register(s, r);
+    let h = step_text::reach(s);
+    let q = step_text::term_register(s, r);
     let a = hop_over(steps, guard, k, r, h, out, at);
     fsm::apply_term(steps, guard, k, r, x, q, out, a)
 }
@@ -224,7 +225,7 @@ fn empties_fit(steps: &[u32], count: usize) -> bool
         let s = current::step(steps, k);
         let x = s.term;
         let h = s.hop;
-        let after = current::is_empty(x);
+        let after = step_text::is_empty(x);
         if !hop_fits(before, after, h) {
             return false;
         }
@@ -241,7 +242,7 @@ pub fn steps_fit(steps: &[u32], count: usize) -> bool
 {
     let s = current::step(steps, 0);
     let x = s.term;
-    if current::is_empty(x) {
+    if step_text::is_empty(x) {
         return false;
     }
     empties_fit(steps, count)

@@ -16,8 +16,9 @@ use Rattle.meaning.specs.declared.SeqTerm.the-variants.{Bool as BoolTerm, Goto,
 use Rattle.meaning.specs.declared.SeqHop.{SeqHop}
 use Rattle.meaning.specs.declared.SeqHop.the-variants.{Fixed, AtLeast}
 use Rattle.meaning.specs.declared.SeqStep.{SeqStep}
-use Rattle.current.specs.Text.{reach, at-least-one, hop-registers, term-registers, step-registers, registers-at}
-use Rattle.current.proofs.Laws.{at-least-itself, term-count-small}
+use Rattle.step_text.specs.Text.{reach, at-least-one, hop-registers, term-registers, step-registers}
+use Rattle.current.specs.Text.{registers-at}
+use Rattle.step_text.proofs.Laws.{at-least-itself, term-count-small}
 use Rattle.current.proofs.Walk.{registers-more, registers-grow, later-registers, lead-registers}
 use Rattle.sizes.specs.Sizes.{hop-text-size, term-text-size, lead-text-size, delays-size, hop-stores-size, goto-size, run-size, term-stores-size, step-size, first-size, size-up-to-step, Countable}
 use Rattle.sizes.specs.declared.Size.{Size}

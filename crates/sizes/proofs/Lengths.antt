@@ -15,7 +15,8 @@ use Rattle.meaning.specs.declared.SeqTerm.the-variants.{Bool as BoolTerm, Goto,
 use Rattle.meaning.specs.declared.SeqHop.{SeqHop}
 use Rattle.meaning.specs.declared.SeqHop.the-variants.{Fixed, AtLeast}
 use Rattle.term.specs.Steps.{nth-step}
-use Rattle.current.specs.Text.{atom-word, register-word, one-word, any-word, not-word, and-word, or-word, store-word, reach, at-least-one, hop-registers, registers-at, hop-keeps, term-keeps, hop-prefix, hop-suffix, term-prefix, term-suffix, hop-base, term-base, hop-text, term-text, step-text, lead-text, text-at, activation-at}
+use Rattle.step_text.specs.Text.{atom-word, register-word, one-word, any-word, not-word, and-word, or-word, store-word, reach, at-least-one, hop-registers, hop-keeps, term-keeps, hop-prefix, hop-suffix, term-prefix, term-suffix, hop-base, term-base, hop-text, term-text, step-text, lead-text}
+use Rattle.current.specs.Text.{registers-at, text-at, activation-at}
 use Rattle.fsm.specs.Stores.{goto-stage-words, goto-store-words, nonconsec-store-words, run-stage-words, term-store-words}
 use Rattle.pipeline.specs.Stores.{delay-store-words, hop-store-words, step-store-words, store-words-after, alternative-store-words}
 use Rattle.sizes.specs.Sizes.{hop-text-size, term-text-size, lead-text-size, delays-size, hop-stores-size, goto-size, run-size, term-stores-size, step-size, first-size, size-up-to-step}

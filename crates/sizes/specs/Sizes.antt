@@ -12,7 +12,8 @@ use Rattle.meaning.specs.declared.SeqHop.{SeqHop}
 use Rattle.meaning.specs.declared.SeqHop.the-variants.{Fixed, AtLeast}
 use Rattle.meaning.specs.declared.SeqStep.{SeqStep}
 use Rattle.term.specs.Steps.{nth-step}
-use Rattle.current.specs.Text.{reach, registers-before}
+use Rattle.step_text.specs.Text.{reach}
+use Rattle.current.specs.Text.{registers-before}
 use Rattle.sizes.specs.declared.Size.{Size}
 
 -- The text after a hop, after a term, and after the first term.

@@ -5,7 +5,7 @@ ghost use mathlib.Core.Path.{_≡_};
 ghost use Prim.Native.Nat.{_+_, _-_, _≤_};
 ghost use lib.ListN.{length};
 ghost use Rattle.words.specs.Choice.{«pick»};
-ghost use Rattle.current.specs.Text.{hop-registers, step-registers};
+ghost use Rattle.step_text.specs.Text.{hop-registers, step-registers};
 ghost use Rattle.sizes.specs.Sizes.{hop-text-size, term-text-size, lead-text-size, delays-size, hop-stores-size, goto-size, run-size, term-stores-size, step-size, first-size, size-up-to-step, Countable};
 
 // The words of the expression, and of the stores before it.
@@ -143,7 +143,7 @@ fn step_size(s: meaning::SeqStep, g: u64, z: Size) -> Size
     ensures { λ r. ⌜ r ≡ step-size g s z ⌝ }
 {
     let x = s.term;
-    let h = current::reach(s);
+    let h = step_text::reach(s);
     let a = hop_text(h, g, z.text);
     let own = hop_stores(h, g, z.text) + term_stores(x, a);
     Size {

@@ -18,7 +18,7 @@ ghost use Rattle.within.specs.AllSizes.{«plus», pairs-size, row-size, 
 ghost use Rattle.within.specs.Rows.{Placed, Paired};
 
 // 01's operation that ends the match.
-const MATCH: u32 = 14 * current::ATOM;
+const MATCH: u32 = 14 * step_text::ATOM;
 
 // The registers of the j-th alternative of seq1 beside one of seq2, whose window is l and whose steps end at the place.
 fn nth_pair_registers(t: &[u32], n1: u32, j: u32, l: u64, place: usize, work: &mut [u32]) -> u64
@@ -296,7 +296,7 @@ fn put_match(
 {
     let p = all_texts(t, n1, n2, first, work, out, at);
     if p == at {
-        return words::put(out, at, current::ZERO);
+        return words::put(out, at, step_text::ZERO);
     }
     p
 }

@@ -1,5 +1,5 @@
--- Words put one part after the other, a slice cleared from the front, and a list read from the front: laws that every
--- crate above cites. They assume nothing.
+-- Words put one part after the other, a slice copied or cleared from the front, and a list read from the front: laws that
+-- every crate above cites. They assume nothing.
 use mathlib.Core.Path.{_≡_, refl, sym, ap, _∙_}
 use mathlib.Core.List.{List, [], _∷_, _++_, append-nil, append-assoc}
 use Prim.Native.Nat.{ℕ, suc, _+_, _<_, _≤_}

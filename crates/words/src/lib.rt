@@ -1,7 +1,7 @@
-// Words put into a lent slice, and a slice cleared.
+// Words put into a lent slice, one or those of another, and a slice cleared.
 ghost use mathlib.Core.Path.{_≡_};
 ghost use mathlib.Core.List.{[], _∷_};
-ghost use Prim.Native.Nat.{_<_};
+ghost use Prim.Native.Nat.{_+_, _<_, _≤_};
 ghost use lib.ListN.{length, replicate};
 ghost use Rattle.words.specs.Written.{Wrote};
 
@@ -12,6 +12,20 @@ pub fn put(out: &mut [u32], place: usize, word: u32) -> usize
 {
     out[place] = word;
     place + 1
+}
+
+// Puts the words of a slice from the place on; the next place.
+pub fn copied(words: &[u32], out: &mut [u32], place: usize) -> usize
+    requires { ⌜ place + length (now words) ≤ length (now out) ⌝ }
+    ensures { λ next. ⌜ Wrote (now (out .entry)) (now (out .exit)) place next (now (words .entry)) ⌝ }
+{
+    let mut next = place;
+    let mut i = 0;
+    while i < words.len() {
+        next = put(out, next, words[i]);
+        i += 1;
+    }
+    next
 }
 
 // Every word to zero.

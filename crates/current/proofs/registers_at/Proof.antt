@@ -1,5 +1,5 @@
 -- `registers_at` adds the registers of hop and term, but for the first step.
-use Rattle.current.proofs.Laws.{registers-first, registers-later}
+use Rattle.current.proofs.Walk.{registers-first, registers-later}
 use borrow.Author.Needs.{needs}
 use Rattle.current.proofs.registers_at.Statement.{statement}
 use Rattle.current.proofs.registers_at.Tie as tie

@@ -1,6 +1,6 @@
 -- `apply_term` puts the stores of a later term, variant by variant.
 use Rattle.fsm.specs.Stores.{term-store-words}
-use Rattle.current.specs.Text.{term-registers}
+use Rattle.step_text.specs.Text.{term-registers}
 use Rattle.words.proofs.Laws.{nothing-written}
 use Rattle.fsm.proofs.Laws.{stores-in, stores-room, variant-atom, variant-registers, nonconsec-variant-registers}
 use borrow.Author.Needs.{needs}

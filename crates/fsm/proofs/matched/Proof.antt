@@ -1,5 +1,5 @@
 -- `matched` puts the machine's text around the activation, or anew.
-use Rattle.current.proofs.Laws.{text-prefix-room, text-middle-room, text-suffix-room, text-kept-done, text-base-room, text-new-done, no-keep}
+use Rattle.step_text.proofs.Laws.{text-prefix-room, text-middle-room, text-suffix-room, text-kept-done, text-base-room, text-new-done, no-keep}
 use borrow.Author.Needs.{needs}
 use Rattle.fsm.proofs.matched.Statement.{statement}
 use Rattle.fsm.proofs.matched.Tie as tie

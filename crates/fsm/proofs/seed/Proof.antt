@@ -1,6 +1,7 @@
 -- `seed` puts the stores of the first term, variant by variant.
 use Rattle.fsm.specs.Stores.{term-store-words}
-use Rattle.current.specs.Text.{term-registers, activation-at}
+use Rattle.step_text.specs.Text.{term-registers}
+use Rattle.current.specs.Text.{activation-at}
 use Rattle.words.proofs.Laws.{nothing-written}
 use Rattle.fsm.proofs.Laws.{stores-in, stores-room, variant-atom, variant-registers, nonconsec-variant-registers}
 use borrow.Author.Needs.{needs}

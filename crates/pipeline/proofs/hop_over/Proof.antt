@@ -1,5 +1,5 @@
 -- `hop_over` puts the stores of a hop, variant by variant.
-use Rattle.current.specs.Text.{hop-registers}
+use Rattle.step_text.specs.Text.{hop-registers}
 use Rattle.pipeline.specs.Stores.{hop-store-words}
 use Rattle.pipeline.proofs.Laws.{hop-in, hop-room, hop-variant}
 use borrow.Author.Needs.{needs}

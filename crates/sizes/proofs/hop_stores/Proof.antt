@@ -1,6 +1,6 @@
 -- `hop_stores` counts the stores of a hop, variant by variant.
 use Rattle.sizes.specs.Sizes.{hop-stores-size}
-use Rattle.current.specs.Text.{hop-registers}
+use Rattle.step_text.specs.Text.{hop-registers}
 use Rattle.sizes.proofs.Laws.{hop-variant, late-variant, late-fits}
 use borrow.Author.Needs.{needs}
 use Rattle.sizes.proofs.hop_stores.Statement.{statement}

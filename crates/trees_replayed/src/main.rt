@@ -1,0 +1,238 @@
+// Trees, read as text, lowered and answered as text: 01's cases, every kind of term after every kind of hop, every refusal. A new
+// case takes two lines and no proof.
+//
+// The file `stdin` has a case's name, and below it decimal numbers with blanks between them: the words of work and of output that are
+// lent, at most 1,052,672 and 164,224, and the tree's words, five a node. Empty lines and lines that begin with # are skipped. The
+// file `stdout` has the name and 01's text. Listings there were made by the original's `synth_seq_match`, compiled as it is; the
+// refusals' numbers and places are 01's. What is lent is filled before, and a line more says what is not as promised afterwards.
+//
+// Example: `a ##1 b` and below it `32 8  1 0 0 0 0  1 1 0 0 0  2 0 1 1 1` print the name, `ok 1 8 2`, `seq 0 = a0 any` and
+// `match = r0 a1 any and`, a line each.
+ghost use mathlib.Core.Path.{_≡_};
+ghost use Prim.Native.Nat.{_≤_};
+ghost use lib.ListN.{length};
+ghost use Rattle.text.specs.Text.{«words-listed»};
+
+// What lent words are filled with: not zero, and no word of a listing.
+const FILLED: u32 = 0x5a5a_5a5a;
+
+// Where the byte next stands from the place on, or the text's end.
+fn until(text: &[u8], from: usize, byte: u8) -> usize
+    requires { ⌜ from ≤ length (now text) ⌝ }
+    ensures { λ r. ⌜ (from ≤ r) × (r ≤ length (now (text .entry))) ⌝ }
+{
+    let mut i = from;
+    while i < text.len() {
+        if text[i] == byte {
+            return i;
+        }
+        i += 1;
+    }
+    i
+}
+
+// A number with one more digit, at most 4,294,967,295. Any other byte changes nothing.
+fn with_digit(value: u32, digit: u8) -> u32 {
+    if digit < b'0' {
+        return value;
+    }
+    if b'9' < digit {
+        return value;
+    }
+    let longer = value as u64 * 10 + (digit - b'0') as u64;
+    if 4294967295 < longer {
+        return 4294967295;
+    }
+    longer as u32
+}
+
+// The number that the digits write.
+fn number(digits: &[u8]) -> u32 {
+    let mut value = 0;
+    let mut i = 0;
+    while i < digits.len() {
+        value = with_digit(value, digits[i]);
+        i += 1;
+    }
+    value
+}
+
+// Puts the number at the place, if there are digits and room; the next place.
+fn add(digits: &[u8], numbers: &mut [u32], place: usize) -> usize
+    requires { ⌜ place ≤ length (now numbers) ⌝ }
+    ensures { λ next. ⌜ next ≤ length (now (numbers .exit)) ⌝ }
+{
+    if digits.len() == 0 {
+        return place;
+    }
+    if numbers.len() <= place {
+        return place;
+    }
+    numbers[place] = number(digits);
+    place + 1
+}
+
+// The numbers of a line, put from the front on; how many there are.
+fn parsed(line: &[u8], numbers: &mut [u32]) -> usize
+    ensures { λ count. ⌜ count ≤ length (now (numbers .exit)) ⌝ }
+{
+    let mut count = 0;
+    let mut from = 0;
+    while from < line.len() {
+        let end = until(line, from, b' ');
+        count = add(&line[from..end], numbers, count);
+        from = end + 1;
+    }
+    count
+}
+
+// A size that is asked for, at most what there is.
+fn smaller(asked: u32, most: usize) -> usize
+    ensures { λ r. ⌜ r ≤ most ⌝ }
+{
+    let size = asked as usize;
+    if size < most { size } else { most }
+}
+
+// Whether the word stands at every place from `from` on.
+fn only(word: u32, words: &[u32], from: usize) -> bool {
+    let mut i = from;
+    while i < words.len() {
+        if words[i] != word {
+            return false;
+        }
+        i += 1;
+    }
+    true
+}
+
+// How many words of the output are the listing.
+fn listed(answer: meaning::Lowered) -> usize
+    ensures { λ r. ⌜ r ≡ words-listed answer ⌝ }
+{
+    match answer {
+        meaning::Lowered::Listing(_, words, _) => words,
+        meaning::Lowered::Refused(_, _) => 0,
+    }
+}
+
+// Says what is not as promised: work is all zero, the output is as it was past the words written, and they are as 01 describes.
+fn inspect(words: usize, work: &[u32], out: &[u32])
+    requires { ⌜ words ≤ length (now out) ⌝ }
+{
+    if !only(0, work, 0) {
+        io::write_all(1, b"work left filled\n");
+    }
+    if !only(FILLED, out, words) {
+        io::write_all(1, b"output changed\n");
+    }
+    if words == 0 {
+        return;
+    }
+    let checked = listing::checked(&out[..words]);
+    let meaning::Checked::Described = checked else {
+        io::write_all(1, b"listing not as described\n");
+        return;
+    };
+}
+
+// A number, and what stands behind it.
+fn say(number: usize, end: &[u8]) {
+    io::print_decimal(1, number as u64);
+    io::write_all(1, end);
+}
+
+// The first line of a listing's text.
+fn say_counts(answer: meaning::Lowered) {
+    let meaning::Lowered::Listing(registers, words, deepest) = answer else {
+        return;
+    };
+    io::write_all(1, b"ok ");
+    say(registers, b" ");
+    say(words, b" ");
+    say(deepest, b"\n");
+}
+
+// The answer's text; of a listing that is too long for the page, its first line.
+fn show(answer: meaning::Lowered, words: usize, out: &[u32], page: &mut [u8])
+    requires { ⌜ (words ≡ words-listed answer) × (words ≤ length (now out)) × (524416 ≤ length (now page)) ⌝ }
+{
+    if 16384 < words {
+        say_counts(answer);
+        return;
+    }
+    let end = text::text(answer, out, page);
+    io::write_all(1, &page[..end]);
+}
+
+// A tree's answer, shown once what was lent has been looked at.
+fn lowered(tree: &[u32], work: &mut [u32], out: &mut [u32]) {
+    let answer = lower::lower(tree, work, out);
+    let words = listed(answer);
+    if out.len() < words {
+        io::write_all(1, b"listing longer than the output\n");
+        return;
+    }
+    inspect(words, work, out);
+    let mut page = [0u8; 524416];
+    show(answer, words, out, &mut page);
+}
+
+// A case's numbers, with the work and the output that it may ask for. There is room for a node more than a tree may have.
+fn replay_tree(line: &[u8], work: &mut [u32], out: &mut [u32]) {
+    let mut numbers = [0u32; 20487];
+    let count = parsed(line, &mut numbers);
+    let first = 2;
+    if count < first {
+        io::write_all(1, b"no tree\n");
+        return;
+    }
+    let work_end = smaller(numbers[0], work.len());
+    let out_end = smaller(numbers[1], out.len());
+    lowered(
+        &numbers[first..count],
+        &mut work[..work_end],
+        &mut out[..out_end],
+    );
+}
+
+// The same, with work for more entries than are ever taken, and the output for the longest listing of 01's cases.
+fn replay_filled(line: &[u8]) {
+    let mut work = [FILLED; 1052672];
+    let mut out = [FILLED; 164224];
+    replay_tree(line, &mut work, &mut out);
+}
+
+// A line: to be skipped, or a case's name, or its numbers; whether numbers are to come.
+fn replay_line(line: &[u8], named: bool) -> bool {
+    if line.len() == 0 {
+        return named;
+    }
+    if line[0] == b'#' {
+        return named;
+    }
+    if named {
+        replay_filled(line);
+        return false;
+    }
+    io::write_all(1, line);
+    io::write_all(1, b"\n");
+    true
+}
+
+// Every line, in turn.
+fn replay(input: &[u8]) {
+    let mut named = false;
+    let mut from = 0;
+    while from < input.len() {
+        let end = until(input, from, b'\n');
+        named = replay_line(&input[from..end], named);
+        from = end + 1;
+    }
+}
+
+fn main() {
+    let mut input = [0u8; 1572864];
+    let count = io::read_full(0, &mut input);
+    replay(&input[..count]);
+}

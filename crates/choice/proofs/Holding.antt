@@ -2,8 +2,8 @@
 -- enough for words. From what the checks, the walk and the room for both halves leave.
 use mathlib.Core.Path.{_≡_, sym, ap, _∙_}
 use mathlib.Core.List.{List, [], _∷_}
-use Prim.Native.Nat.{ℕ, zero, suc, _+_, _*_, _-_, _<_, _≤_, _/_}
-use native.Mathlib.Nat.{zero-add, add-zero}
+use Prim.Native.Nat.{ℕ, _+_, _*_, _-_, _<_, _≤_, _/_}
+use native.Mathlib.Nat.{zero-add}
 use native.Mathlib.Omega.{arith}
 use lib.ListN.{length, getD, take, drop}
 use Rattle.words.specs.Written.{written}
@@ -15,9 +15,8 @@ use Rattle.meaning.specs.Tree.{tree-at}
 use Rattle.meaning.specs.Alternative.{Guard, SeqAlt, step, rehop, expand}
 use Rattle.meaning.specs.Pipeline.{synth-seq-pipeline}
 use Rattle.meaning.proofs.Counting.{length-rehop}
-use Rattle.meaning.proofs.Ranges.{a-formed-tree-is-ranged}
 use Rattle.meaning.proofs.Walks.{room-is-small}
-use Rattle.expand.specs.ByNumber.{alternatives-of, nth, alternative-words}
+use Rattle.expand.specs.ByNumber.{alternatives-of, alternative-words}
 use Rattle.expand.proofs.Every.{has-step, each-expanded, each-nth}
 use Rattle.expand.proofs.Room.{size-within-room, length-of-alternative}
 use Rattle.guards.specs.GuardText.{closed-guard}
@@ -27,22 +26,10 @@ use Rattle.current.proofs.Bridge.{the-registers-are-counted}
 use Rattle.choice.specs.Alternatives.{registers-in}
 use Rattle.choice.specs.Passes.{Chosen, chosen, kept-in, Holds}
 use Rattle.choice.specs.declared.Kept.{Kept}
-use Rattle.term.proofs.Round.{stored-words}
+use Rattle.term.proofs.Round.{stored-words, stored-atoms}
+use Rattle.expand.proofs.SmallAtoms.{small-rehop, an-alternative-has-small-atoms}
 use Rattle.choice.proofs.Keeping.{numbered, steps-in-the-first-half, guard-in-the-second-half}
 use Rattle.choice.proofs.Registers.{the-root-stores-as-the-pipeline}
-use Rattle.choice.proofs.SmallAtoms.{small-atom, small-rehop, SmallSteps, SmallAlternatives, SmallAlternative, small-alternatives}
-
--- The atom of each stored step.
-small-atoms : (ts : List ℕ) (ss : List SeqStep) (k : ℕ) → Stored ts k ss → SmallSteps ss → (j : ℕ) → j < length ss → term-atom (nth-step ts (k + j) .term) < 65536
-small-atoms ts [] k S p j h = absurd (omega arith)
-small-atoms ts (s ∷ ss) k S p zero h = rw (add-zero k, S .0) (small-atom (s .term) (p .0))
-small-atoms ts (s ∷ ss) k S p (suc j) h = let e : k + suc j ≡ suc k + j = omega arith in rw e (small-atoms ts ss (suc k) (S .1) (p .1) j (omega arith))
-
-small-nth : (alts : List SeqAlt) (i : ℕ) → i < length alts → SmallAlternatives alts → SmallAlternative (nth alts i)
-unfolding nth
-small-nth [] i h p = absurd (omega arith)
-small-nth (y ∷ ys) zero h p = p .0
-small-nth (y ∷ ys) (suc i) h p = small-nth ys i (omega arith) (p .1)
 
 -- The registers of an alternative are counted from its stored steps.
 pipeline-registers : (ts : List ℕ) (g : Guard) (ss : List SeqStep) → Stored ts 0 (rehop (Fixed 0) ss) → 1 ≤ length ss
@@ -114,10 +101,9 @@ module _ {t : List ℕ} {n i : ℕ} {work work₁ : List ℕ} {k : Kept} (C : Ch
       rw (long, H .from, H .kept) (written-part (written work 0 W) (length work / 2) G (rw length-written guard-fits-in))
 
   pub the-atoms-are-small : (j : ℕ) → j < k .steps → term-atom (nth-step work₁ j .term) < 65536
-  unfolding alternatives-of
   the-atoms-are-small j h =
-      let small = small-nth (alternatives-of t n) i (C .index) (small-alternatives (tree-at t n) (a-formed-tree-is-ranged t (C .formed) n (C .inside))) in
-      rw (← zero-add j) (small-atoms work₁ (rehop (Fixed 0) (y .steps)) 0 the-steps-are-stored (small-rehop (Fixed 0) (y .steps) (small .steps)) j (omega (arith, length-rehop (Fixed 0) (y .steps), H .many)))
+      let small = an-alternative-has-small-atoms t n i (C .formed) (C .inside) (C .index) in
+      rw (← zero-add j) (stored-atoms work₁ (rehop (Fixed 0) (y .steps)) 0 the-steps-are-stored (small-rehop (Fixed 0) (y .steps) small) j (omega (arith, length-rehop (Fixed 0) (y .steps), H .many)))
 
   pub the-registers-are : registers-in y ≡ registers-before work₁ (k .steps)
   the-registers-are = rw (H .many) (counted-registers work₁ y the-steps-are-stored (omega (arith, some-step, H .many)))

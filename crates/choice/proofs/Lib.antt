@@ -3,7 +3,6 @@ pub mod Words
 pub mod Surveys
 pub mod Laws
 pub mod Keeping
-pub mod SmallAtoms
 pub mod RootTexts
 pub mod Holding
 pub mod Looking

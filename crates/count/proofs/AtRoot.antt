@@ -8,14 +8,14 @@ use lib.ListN.{length}
 use Rattle.meaning.specs.Tree.{node-at, tree-at, nodes, root}
 use Rattle.meaning.specs.Alternative.{SeqAlt, expand}
 use Rattle.meaning.specs.Refusals.{entries, counts, and-then, walk, pair-counts, limited-within, walk-root, room-of}
-use Rattle.meaning.specs.Lowerable.{WellFormed, FormedTable, WalkableRoot}
+use Rattle.meaning.specs.Lowerable.{WellFormed, FormedTable}
 use Rattle.meaning.specs.declared.Node.{Node}
 use Rattle.meaning.specs.declared.Counts.{Counts}
 use Rattle.meaning.specs.declared.Walked.{Walked}
 use Rattle.meaning.specs.declared.Walked.the-variants.{Counted, Refused}
 use Rattle.meaning.proofs.Nodes.{at-atom, at-delay, at-consec, at-goto, at-nonconsec, at-throughout, at-within}
 use Rattle.meaning.proofs.Ranges.{by-kind}
-use Rattle.meaning.proofs.Walks.{the-walk-counts-the-expansion, a-walked-root-is-walkable, root-counts, the-walk-counts-the-root, room-is-small}
+use Rattle.meaning.proofs.Walks.{the-walk-counts-the-expansion, room-is-small}
 use Rattle.count.specs.Nodes.{Countable, limit, paired}
 use Rattle.count.proofs.Leaves.{one-below}
 use Rattle.count.proofs.Stands.{limit-capped}
@@ -99,11 +99,3 @@ module _ (t : List ℕ) (work : ℕ) {room : ℕ} {v : Node} (F : FormedTable t)
   -- The bound of the room, for what the answers are bounded by.
   pub room-enough : room ≤ 65536
   room-enough = small t F work e
-
--- What a caller has of a root that was counted: 5 to 11 fall on none of its nodes ..
-pub a-counted-root-is-walkable : (t : List ℕ) (room : ℕ) {r : Walked} {c : Counts} → r ≡ walk-root room (root t) → r ≡ Counted c → WalkableRoot room (root t)
-a-counted-root-is-walkable t room {r} {c} e q = a-walked-root-is-walkable room (root t) c (sym e ∙ q)
-
--- .. and the counts are its own.
-pub a-counted-root-is-counted : (t : List ℕ) (room : ℕ) {r : Walked} {c : Counts} → r ≡ walk-root room (root t) → r ≡ Counted c → c ≡ root-counts (root t)
-a-counted-root-is-counted t room {r} {c} e q = the-walk-counts-the-root room (root t) c (sym e ∙ q)

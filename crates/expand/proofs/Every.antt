@@ -1,5 +1,5 @@
 -- What every alternative of every tree has: shown once for one term, for a join and for a guard, it holds of all.
-use mathlib.Core.List.{List, [], _∷_, _++_}
+use mathlib.Core.List.{List, [], _∷_}
 use Prim.Native.Nat.{ℕ, zero, suc, _-_, _<_}
 use native.Mathlib.Omega.{arith}
 use lib.ListN.{length, length-append}
@@ -10,11 +10,8 @@ use Rattle.meaning.specs.declared.SeqHop.the-variants.{Fixed}
 use Rattle.meaning.specs.Tree.{finite, unbounded, Seq, atom, delay, consec, goto, nonconsec, throughout, within, Operand, boolean, other, operand, below}
 use Rattle.meaning.specs.Expression.{a·, any}
 use Rattle.meaning.specs.Alternative.{guard, and-opt, SeqAlt, alternative, single, rehop, joined, join-rights, join-lefts, join-hops, hops, copies, copies-from, with-empty, consec-finite, over, consec-unbounded, guard-each, expand}
+use Rattle.meaning.proofs.Uses.{Each, each-append}
 use Rattle.expand.specs.ByNumber.{nth}
-
-abbrev pub Each : (SeqAlt → Type 0) → List SeqAlt → Type 0
-Each P [] = Unit {0}
-Each P (y ∷ ys) = P y × Each P ys
 
 -- The three ways in which expansion makes an alternative.
 pub record Inherited (P : SeqAlt → Type 0) : Type 0 where
@@ -23,10 +20,6 @@ pub record Inherited (P : SeqAlt → Type 0) : Type 0 where
   pub of-guarded : (c : ℕ) (y : SeqAlt) → P y → P (alternative (y .steps) (and-opt (y .guard) (guard (any (a· c)))))
 
 module _ {P : SeqAlt → Type 0} (I : Inherited P) where
-  each-append : (xs ys : List SeqAlt) → Each P xs → Each P ys → Each P (xs ++ ys)
-  each-append [] ys X Y = Y
-  each-append (x ∷ xs) ys X Y = (X .0, each-append xs ys (X .1) Y)
-
   each-rights : (h : SeqHop) (l : SeqAlt) (rs : List SeqAlt) → P l → Each P rs → Each P (join-rights h l rs)
   each-rights h l [] p R = tt
   each-rights h l (r ∷ rs) p R = (I .of-joined h l r p (R .0), each-rights h l rs p (R .1))
@@ -34,12 +27,12 @@ module _ {P : SeqAlt → Type 0} (I : Inherited P) where
   each-lefts : (h : SeqHop) (ls rs : List SeqAlt) → Each P ls → Each P rs → Each P (join-lefts h ls rs)
   each-lefts h [] rs L R = tt
   each-lefts h (l ∷ ls) rs L R =
-      each-append (join-rights h l rs) (join-lefts h ls rs) (each-rights h l rs (L .0) R) (each-lefts h ls rs (L .1) R)
+      each-append P (join-rights h l rs) (join-lefts h ls rs) (each-rights h l rs (L .0) R) (each-lefts h ls rs (L .1) R)
 
   each-hops : (hs : List SeqHop) (ls rs : List SeqAlt) → Each P ls → Each P rs → Each P (join-hops hs ls rs)
   each-hops [] ls rs L R = tt
   each-hops (h ∷ hs) ls rs L R =
-      each-append (join-lefts h ls rs) (join-hops hs ls rs) (each-lefts h ls rs L R) (each-hops hs ls rs L R)
+      each-append P (join-lefts h ls rs) (join-hops hs ls rs) (each-lefts h ls rs L R) (each-hops hs ls rs L R)
 
   pub each-copies : (base : List SeqAlt) (k : ℕ) → Each P base → Each P (copies base k)
   each-copies base zero B = B
@@ -48,7 +41,7 @@ module _ {P : SeqAlt → Type 0} (I : Inherited P) where
   each-copies-from : (base : List SeqAlt) (k count : ℕ) → Each P base → Each P (copies-from base k count)
   each-copies-from base k zero B = tt
   each-copies-from base k (suc count) B =
-      each-append (copies base k) (copies-from base (suc k) count) (each-copies base k B) (each-copies-from base (suc k) count B)
+      each-append P (copies base k) (copies-from base (suc k) count) (each-copies base k B) (each-copies-from base (suc k) count B)
 
   each-with-empty : (m : ℕ) (ys : List SeqAlt) → Each P ys → Each P (with-empty m ys)
   each-with-empty zero ys Y = (I .of-single Empty, Y)

@@ -6,4 +6,5 @@ pub mod Counted
 pub mod Numbers
 pub mod Written
 pub mod Room
+pub mod SmallAtoms
 pub mod Example

@@ -23,9 +23,6 @@ after-one u v w = three-done refl u v w
 pub after-three : {o o₁ o₂ o₃ A ws : List ℕ} {at a c p x y z : ℕ} → Wrote o o₁ at a (x ∷ y ∷ z ∷ []) → Wrote o₁ o₂ a c A → Wrote o₂ o₃ c p ws → Wrote o o₃ at p (x ∷ y ∷ z ∷ (A ++ ws))
 after-three u v w = three-done refl u v w
 
-pub before-words : {o o₁ o₂ A ws : List ℕ} {at a p : ℕ} → Wrote o o₁ at a A → Wrote o₁ o₂ a p ws → Wrote o o₂ at p (A ++ ws)
-before-words u v = both-done refl u v
-
 -- The loop of `goto_later`: i stages are written.
 abbrev stage-words : ℕ → ℕ → List ℕ
 stage-words b r = atom-word b ∷ any-word ∷ register-word (r - 1) ∷ and-word ∷ atom-word b ∷ any-word ∷ not-word ∷ register-word r ∷ and-word ∷ or-word ∷ store-word gto r ∷ []

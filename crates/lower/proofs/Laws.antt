@@ -19,7 +19,7 @@ use Rattle.meaning.specs.Root.{choice, synth-within, synth-seq-match}
 use Rattle.meaning.specs.Listing.{listing, deepest}
 use Rattle.meaning.specs.Refusals.{table, walk-root, room-of, nowhere, first-misplaced, misplaced}
 use Rattle.meaning.specs.Lower.{synth-of, words-of, fits, after-walk, after-table, after-nothing, lower, output-after}
-use Rattle.meaning.specs.Lowerable.{FormedTable, Walkable}
+use Rattle.meaning.specs.Lowerable.{Walkable}
 use Rattle.meaning.specs.declared.Table.{Table}
 use Rattle.meaning.specs.declared.Table.the-variants.{Formed, Refused as Misformed}
 use Rattle.meaning.specs.declared.Counts.{Counts}
@@ -27,7 +27,7 @@ use Rattle.meaning.specs.declared.Walked.{Walked}
 use Rattle.meaning.specs.declared.Walked.the-variants.{Counted, Refused as Stopped}
 use Rattle.meaning.specs.declared.Lowered.{Lowered}
 use Rattle.meaning.specs.declared.Lowered.the-variants.{Listing, Refused}
-use Rattle.meaning.proofs.Formed.{a-formed-table}
+use Rattle.tree.proofs.Checks.{a-checked-table-is-formed}
 use Rattle.meaning.proofs.Ranges.{a-formed-root-is-ranged}
 use Rattle.expand.specs.ByNumber.{alternatives-of}
 use Rattle.expand.proofs.ByKind.{some-alternatives}
@@ -226,9 +226,6 @@ module _ (t : List ℕ) (first work : ℕ) (out : List ℕ) {table-is : Table} (
       record { answers = a ∙ answer ∙ rw (← p, e) refl; holds = rw (a, answer) refl }
 
   module _ (f : table-is ≡ Formed) where
-    pub table-is-formed : FormedTable t
-    table-is-formed = a-formed-table t (sym p ∙ f)
-
     module _ {walked : Walked} (w : walked ≡ walk-root (room-of work) (root t)) where
       pub answers-stopped : {number place : ℕ} {r : Lowered} → walked ≡ Stopped number place → r ≡ walked-answer walked → Answers t first work out r out
       unfolding lower after-nothing after-table walked-answer output-after
@@ -238,7 +235,7 @@ module _ (t : List ℕ) (first work : ℕ) (out : List ℕ) {table-is : Table} (
 
       module _ {c : Counts} (e : walked ≡ Counted c) where
         pub table-is-walked : Walks t work c
-        table-is-walked = record { formed = table-is-formed; walks = sym e ∙ w }
+        table-is-walked = record { formed = a-checked-table-is-formed t p f; walks = sym e ∙ w }
 
         pub answers-finished : {out₁ : List ℕ} {r : Lowered} → Finishes t first out r out₁ → Answers t first work out r out₁
         unfolding lower after-nothing after-table

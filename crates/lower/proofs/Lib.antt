@@ -1,4 +1,3 @@
-pub mod Named
 pub mod Operands
 pub mod Laws
 pub mod AtRoot

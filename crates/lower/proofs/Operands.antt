@@ -5,16 +5,14 @@ use mathlib.Core.List.{List, [], _∷_, _++_, append-assoc}
 use Prim.Native.Nat.{ℕ, suc, _+_, _-_, _≤_, _<_}
 use native.Mathlib.Omega.{arith}
 use lib.ListN.{length}
-use Rattle.meaning.specs.Tree.{Seq, atom, delay, consec, goto, nonconsec, throughout, within, root}
+use Rattle.meaning.specs.Tree.{root}
 use Rattle.meaning.specs.Expression.{Expr, a·, r·, zero·, one·, any, not·, and·, or·, Tag, seq, arm, gto, ncx, crl, Store, Synth}
-use Rattle.meaning.specs.Alternative.{expand}
-use Rattle.meaning.specs.Root.{synth-seq-match}
 use Rattle.meaning.specs.Listing.{word, operation, rows, row-of, store-operation, expression-words, store-words, listing}
 use Rattle.meaning.specs.Lower.{synth-of, words-of}
 use Rattle.meaning.specs.Lowerable.{Ranged}
 use Rattle.listing.specs.Operands.{OperandsFound}
-use Rattle.choice.proofs.SmallAtoms.{Names, small-alternatives}
-use Rattle.lower.proofs.Named.{StoresName, SynthNames, a-choice-names, a-within-names}
+use Rattle.meaning.proofs.Uses.{Each, Uses, StoreUses, SynthUses}
+use Rattle.meaning.proofs.Bounds.{a-lowered-tree-is-bounded}
 
 -- A word at a height at which it finds what its operation takes; the words behind it start where it leaves the stack.
 module _ (o : ℕ) (known : 1 ≤ o) (last : o ≤ 14) (takes leaves : ℕ) (t : row-of o .takes ≡ takes) (l : row-of o .leaves ≡ leaves) where
@@ -41,7 +39,7 @@ module _ (o : ℕ) (known : 1 ≤ o) (last : o ≤ 14) where
   takes-it t l a small rest more = a-word-finds o known last 1 0 t l a small 1 0 rest (omega arith) (omega arith) more
 
 module _ (R : ℕ) (few : R ≤ 65536) where
-  an-expression-finds : (e : Expr) → Names R e → (h : ℕ) (rest : List ℕ) → OperandsFound (h + 1) rest → OperandsFound h (expression-words e ++ rest)
+  an-expression-finds : (e : Expr) → Uses R 65536 e → (h : ℕ) (rest : List ℕ) → OperandsFound (h + 1) rest → OperandsFound h (expression-words e ++ rest)
   unfolding row-of rows
   an-expression-finds (a· a) p h rest more = puts 1 (omega arith) (omega arith) refl refl a p h rest more
   an-expression-finds (r· r) p h rest more = puts 2 (omega arith) (omega arith) refl refl r (omega arith) h rest more
@@ -68,7 +66,7 @@ module _ (R : ℕ) (few : R ≤ 65536) where
   a-store-finds ncx n rest small more = takes-it 12 (omega arith) (omega arith) refl refl n small rest more
   a-store-finds crl n rest small more = takes-it 13 (omega arith) (omega arith) refl refl n small rest more
 
-  stores-find : (ss : List Store) (n : ℕ) (rest : List ℕ) → StoresName R ss → n + length ss ≤ 65536 → OperandsFound 0 rest → OperandsFound 0 (store-words n ss ++ rest)
+  stores-find : (ss : List Store) (n : ℕ) (rest : List ℕ) → Each (StoreUses R 65536) ss → n + length ss ≤ 65536 → OperandsFound 0 rest → OperandsFound 0 (store-words n ss ++ rest)
   stores-find [] n rest p room more = more
   stores-find (s ∷ ss) n rest p room more =
       simp append-assoc
@@ -76,26 +74,15 @@ module _ (R : ℕ) (few : R ≤ 65536) where
       (a-store-finds (s .tag) n (store-words (suc n) ss ++ rest) (omega arith) (stores-find ss (suc n) rest (p .1) (omega arith) more)))
 
   -- The match word takes the last value.
-  a-listing-finds : (o : Synth) (n : ℕ) → SynthNames R o → n + length (o .stores) ≤ 65536 → OperandsFound 0 (listing n o)
+  a-listing-finds : (o : Synth) (n : ℕ) → SynthUses R 65536 o → n + length (o .stores) ≤ 65536 → OperandsFound 0 (listing n o)
   unfolding row-of rows OperandsFound
   a-listing-finds o n p room =
       stores-find (o .stores) n (expression-words (o .cur) ++ (word 14 0 ∷ [])) (p .0) room
       (an-expression-finds (o .cur) (p .1) 0 (word 14 0 ∷ []) (takes-it 14 (omega arith) (omega arith) refl refl 0 (omega arith) [] tt))
-
--- What a tree lowers to names atoms and registers in range.
-a-match-names : (s : Seq) (n R : ℕ) → Ranged s → n + length (synth-seq-match s n .stores) ≤ R → SynthNames R (synth-seq-match s n)
-unfolding Ranged
-a-match-names (within k x y) n R ranged room = a-within-names R (expand x) (expand y) n (small-alternatives x (ranged .0)) (small-alternatives y (ranged .1)) room
-a-match-names (atom k a) n R ranged room = a-choice-names R (expand (atom k a)) n (small-alternatives (atom k a) ranged) room
-a-match-names (delay k l r m x) n R ranged room = a-choice-names R (expand (delay k l r m x)) n (small-alternatives (delay k l r m x) ranged) room
-a-match-names (consec k s m x) n R ranged room = a-choice-names R (expand (consec k s m x)) n (small-alternatives (consec k s m x) ranged) room
-a-match-names (goto k s c) n R ranged room = a-choice-names R (expand (goto k s c)) n (small-alternatives (goto k s c) ranged) room
-a-match-names (nonconsec k s c) n R ranged room = a-choice-names R (expand (nonconsec k s c)) n (small-alternatives (nonconsec k s c) ranged) room
-a-match-names (throughout k c s) n R ranged room = a-choice-names R (expand (throughout k c s)) n (small-alternatives (throughout k c s) ranged) room
 
 -- Every word of a lowering finds its operands.
 pub a-lowering-finds-its-operands : (t : List ℕ) (first : ℕ) → Ranged (root t) → first + length (synth-of t first .stores) ≤ 65536
     → OperandsFound 0 (words-of t first)
 unfolding synth-of words-of
 a-lowering-finds-its-operands t first ranged room =
-    a-listing-finds 65536 (omega arith) (synth-of t first) first (a-match-names (root t) first 65536 ranged room) room
+    a-listing-finds 65536 (omega arith) (synth-of t first) first (a-lowered-tree-is-bounded 65536 (root t) ranged first room) room

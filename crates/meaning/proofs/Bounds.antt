@@ -22,7 +22,7 @@ use Rattle.meaning.specs.declared.SeqStep.{SeqStep}
 use Rattle.meaning.proofs.Uses.{Each, each-append, Uses, StoreUses, SynthUses}
 
 -- The atom of a term is below 65,536.
-abbrev TermSmall : SeqTerm → Type 0
+abbrev pub TermSmall : SeqTerm → Type 0
 TermSmall (BoolTerm a) = a < 65536
 TermSmall (Goto b k) = b < 65536
 TermSmall (Nonconsec b k) = b < 65536
@@ -30,20 +30,20 @@ TermSmall (ConsecAtLeast b k) = b < 65536
 TermSmall Empty = Unit {0}
 
 -- .. and so of a step, by its term.
-abbrev StepSmall : SeqStep → Type 0
+abbrev pub StepSmall : SeqStep → Type 0
 StepSmall s = TermSmall (s .term)
 
 module _ (R : ℕ) where
   -- Registers below R and atoms below 65,536.
-  abbrev Small : Expr → Type 0
+  abbrev pub Small : Expr → Type 0
   Small e = Uses R 65536 e
 
   -- .. in a guard, and in an alternative.
-  abbrev GuardSmall : Guard → Type 0
+  abbrev pub GuardSmall : Guard → Type 0
   GuardSmall unguarded = Unit {0}
   GuardSmall (guard x) = Small x
 
-  abbrev AltSmall : SeqAlt → Type 0
+  abbrev pub AltSmall : SeqAlt → Type 0
   AltSmall y = GuardSmall (y .guard) × Each StepSmall (y .steps)
 
   -- With all its registers, from n on, below R, a part of the lowering uses no others.
@@ -169,7 +169,7 @@ module _ (R : ℕ) where
         (λ m q. laters-bounded ss (s .1) m cur q)
 
   -- The alternatives of a tree have its atoms: joined, copied and guarded ones too.
-  abbrev AltsSmall : List SeqAlt → Type 0
+  abbrev pub AltsSmall : List SeqAlt → Type 0
   AltsSmall alts = Each AltSmall alts
 
   and-opt-small : (g h : Guard) → GuardSmall g → GuardSmall h → GuardSmall (and-opt g h)
@@ -231,7 +231,7 @@ module _ (R : ℕ) where
   over-small (within n s₁ s₂) u f p = tt
 
   -- All alternatives of a tree.
-  expand-small : (s : Seq) → Ranged s → AltsSmall (expand s)
+  pub expand-small : (s : Seq) → Ranged s → AltsSmall (expand s)
   unfolding Ranged
   expand-small (atom n a) u = single-small (BoolTerm a) u
   expand-small (delay n l r m x) u =

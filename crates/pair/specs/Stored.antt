@@ -1,6 +1,6 @@
 -- Steps read back from a slice that holds one alternative's steps and nothing else, five words each.
 -- Example: of the words of Bool 0 reached by Fixed 0 and Bool 1 reached by Fixed 2, `steps-in` makes these two steps again.
-use mathlib.Core.List.{List, [], _∷_}
+use mathlib.Core.List.{List}
 use Prim.Native.Nat.{ℕ, _*_, _/_, _≤_, _<_}
 use mathlib.Core.Path.{_≡_}
 use lib.ListN.{length}
@@ -13,11 +13,6 @@ count-in words = length words / 5
 
 unfoldable pub steps-in : List ℕ → List SeqStep
 steps-in words = steps-from words 0 (count-in words)
-
--- 1: "atom too large" came first, so that each atom fits into a listing's word.
-abbrev pub SmallAtoms : List SeqStep → Type 0
-SmallAtoms [] = Unit {0}
-SmallAtoms (s ∷ ss) = (term-atom (s .term) < 65536) × SmallAtoms ss
 
 -- The words are those of some steps, not more than the room has entries, with small atoms.
 pub record Kept (words : List ℕ) : Type 0 where

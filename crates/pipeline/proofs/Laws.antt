@@ -152,10 +152,6 @@ module _ {ts : List ℕ} {k r : ℕ} {s : SeqStep} (R : Ready ts k r) (z : 0 < k
   pub later-atom : term-atom (s .term) < 65536
   later-atom = rw w (R .atoms k (omega arith))
 
-  pub later-hop-small : {h : SeqHop} → h ≡ reach s → r + hop-registers h ≤ 65536
-  unfolding step-registers
-  later-hop-small e = rw e (omega (arith, later-small))
-
   module _ {q : ℕ} (i : q ≡ r + hop-registers (reach s)) where
     pub later-term-small : q + term-registers (s .term) ≤ 65536
     unfolding step-registers

@@ -1,7 +1,7 @@
 -- A step takes five words, and one that was stored is read back; so are steps stored one after the other.
 use mathlib.Core.Path.{_≡_, refl, sym, ap, ap₂, _∙_}
 use mathlib.Core.List.{List, [], _∷_, _++_}
-use Prim.Native.Nat.{ℕ, suc, _+_, _*_, _≤_, _<_}
+use Prim.Native.Nat.{ℕ, zero, suc, _+_, _*_, _≤_, _<_}
 use native.Mathlib.Nat.{add-zero, zero-add}
 use native.Mathlib.Omega.{arith}
 use lib.ListN.{length, getD, length-append, List·getD-append}
@@ -9,7 +9,7 @@ use lib.Seq.{getD-append-add}
 use Rattle.words.specs.Choice.{pick}
 use Rattle.words.specs.Written.{written}
 use Rattle.words.proofs.Laws.{read-back}
-use Rattle.term.specs.Steps.{term-tag, term-atom, term-count, hop-tag, hop-ticks, term-from, hop-from, step-words, step-at, steps-words, steps-from, Stored}
+use Rattle.term.specs.Steps.{term-tag, term-atom, term-count, hop-tag, hop-ticks, term-from, hop-from, step-words, step-at, steps-words, nth-step, steps-from, Stored, SmallAtoms}
 use Rattle.meaning.specs.declared.SeqTerm.{SeqTerm}
 use Rattle.meaning.specs.declared.SeqTerm.the-variants.{Bool as BoolTerm, Goto, Nonconsec, ConsecAtLeast, Empty}
 use Rattle.meaning.specs.declared.SeqHop.{SeqHop}
@@ -87,3 +87,9 @@ pub steps-are : (ts : List ℕ) (ss : List SeqStep) (k : ℕ) → Stored ts k ss
 unfolding steps-from
 steps-are ts [] k S = refl
 steps-are ts (s ∷ ss) k S = ap₂ (λ (x : SeqStep) (xs : List SeqStep). x ∷ xs) (S .0) (steps-are ts ss (suc k) (S .1))
+
+-- .. and have their atoms.
+pub stored-atoms : (ts : List ℕ) (ss : List SeqStep) (k : ℕ) → Stored ts k ss → SmallAtoms ss → (j : ℕ) → j < length ss → term-atom (nth-step ts (k + j) .term) < 65536
+stored-atoms ts [] k S small j h = absurd (omega arith)
+stored-atoms ts (s ∷ ss) k S small zero h = rw (add-zero k, S .0) (small .0)
+stored-atoms ts (s ∷ ss) k S small (suc j) h = let e : k + suc j ≡ suc k + j = omega arith in rw e (stored-atoms ts ss (suc k) (S .1) (small .1) j (omega arith))

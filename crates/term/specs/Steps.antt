@@ -2,7 +2,7 @@
 -- Example: `step-words` of Bool 7 reached by AtLeast 2 is 1 ∷ 7 ∷ 0 ∷ 1 ∷ 2 ∷ [].
 use mathlib.Core.Path.{_≡_}
 use mathlib.Core.List.{List, [], _∷_, _++_}
-use Prim.Native.Nat.{ℕ, zero, suc, _+_, _*_}
+use Prim.Native.Nat.{ℕ, zero, suc, _+_, _*_, _<_}
 use lib.Dec.{eqb}
 use lib.ListN.{getD}
 use Rattle.words.specs.Choice.{pick}
@@ -78,3 +78,8 @@ steps-from steps k (suc count) = nth-step steps k ∷ steps-from steps (suc k) c
 abbrev pub Stored : List ℕ → ℕ → List SeqStep → Type 0
 Stored steps k [] = Unit {0}
 Stored steps k (s ∷ ss) = (nth-step steps k ≡ s) × Stored steps (suc k) ss
+
+-- 1: "atom too large" came first, so that each atom fits into a listing's word.
+abbrev pub SmallAtoms : List SeqStep → Type 0
+SmallAtoms [] = Unit {0}
+SmallAtoms (s ∷ ss) = (term-atom (s .term) < 65536) × SmallAtoms ss

@@ -7,4 +7,3 @@ pub mod SizePass
 pub mod StorePass
 pub mod TextPass
 pub mod Whole
-pub mod AtTheRoot

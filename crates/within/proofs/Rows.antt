@@ -1,7 +1,7 @@
 -- One alternative of seq2 in the front of work, and one of seq1 behind it: there is room, and what stands there are its steps.
 use mathlib.Core.Path.{_≡_, sym, ap, _∙_}
-use mathlib.Core.List.{List, [], _∷_, _++_, append-assoc}
-use Prim.Native.Nat.{ℕ, zero, suc, _+_, _*_, _-_, _<_, _≤_}
+use mathlib.Core.List.{List, _++_, append-assoc}
+use Prim.Native.Nat.{ℕ, _+_, _*_, _-_, _<_, _≤_}
 use native.Mathlib.Nat.{sub-zero}
 use native.Mathlib.Omega.{arith}
 use lib.ListN.{length, take, drop}
@@ -9,44 +9,21 @@ use lib.Seq.{take-at, length-take-le}
 use Rattle.words.specs.Written.{Wrote}
 use Rattle.words.proofs.Laws.{still-long, spliced, written-part}
 use Rattle.meaning.specs.Tree.{tree-at}
-use Rattle.meaning.specs.Alternative.{SeqAlt, rehop}
+use Rattle.meaning.specs.Alternative.{rehop}
 use Rattle.meaning.specs.Refusals.{entries, room-of}
-use Rattle.meaning.specs.declared.SeqHop.{SeqHop}
 use Rattle.meaning.specs.declared.SeqHop.the-variants.{Fixed}
 use Rattle.meaning.specs.declared.SeqStep.{SeqStep}
 use Rattle.meaning.proofs.Counting.{length-rehop}
-use Rattle.meaning.proofs.Ranges.{a-formed-tree-is-ranged}
 use Rattle.meaning.proofs.Walks.{room-is-small}
 use Rattle.expand.specs.ByNumber.{alternatives-of, nth, alternative-words, Expandable, Numbered}
 use Rattle.expand.proofs.Every.{has-step, each-expanded, each-nth}
-use Rattle.choice.proofs.SmallAtoms.{small-atom, SmallSteps, SmallAlternatives, small-alternatives}
+use Rattle.expand.proofs.SmallAtoms.{small-rehop, an-alternative-has-small-atoms}
 use Rattle.choice.proofs.Keeping.{room-in-work}
-use Rattle.pair.specs.Stored.{steps-in, SmallAtoms, Kept}
+use Rattle.pair.specs.Stored.{steps-in, Kept}
 use Rattle.term.proofs.Round.{length-of-steps}
 use Rattle.expand.proofs.Room.{size-within-entries}
 use Rattle.pair.proofs.Stored.{steps-read-back, kept-steps}
 use Rattle.within.specs.Rows.{Placed, Paired}
-
--- The hop of a first term is never used.
-small-rehop : (h : SeqHop) (ss : List SeqStep) → SmallAtoms ss → SmallAtoms (rehop h ss)
-small-rehop h [] small = small
-small-rehop h (s ∷ ss) small = small
-
--- The atoms of one of the alternatives of a formed table's node.
-small-atoms : (ss : List SeqStep) → SmallSteps ss → SmallAtoms ss
-small-atoms [] small = tt
-small-atoms (s ∷ ss) small = (small-atom (s .term) (small .0), small-atoms ss (small .1))
-
-small-nth : (alts : List SeqAlt) (i : ℕ) → i < length alts → SmallAlternatives alts → SmallAtoms (nth alts i .steps)
-unfolding nth
-small-nth [] i h small = absurd (omega arith)
-small-nth (y ∷ ys) zero h small = small-atoms (y .steps) (small .0 .steps)
-small-nth (y ∷ ys) (suc i) h small = small-nth ys i (omega arith) (small .1)
-
-small-in-node : {t : List ℕ} {n i : ℕ} → Expandable t n → i < length (alternatives-of t n) → SmallAtoms (nth (alternatives-of t n) i .steps)
-unfolding alternatives-of
-small-in-node {t} {n} {i} E h =
-    small-nth (alternatives-of t n) i h (small-alternatives (tree-at t n) (a-formed-tree-is-ranged t (E .formed) n (E .inside)))
 
 -- What was put into a slice stands there, and what stood before it still does.
 module _ {o o′ : List ℕ} {at end : ℕ} {ws : List ℕ} (w : Wrote o o′ at end ws) (room : at + length ws ≤ length o) where
@@ -85,7 +62,7 @@ module _ {t : List ℕ} {n place work i : ℕ} (P : Placed t n place work) (h : 
 
   words-kept : Kept words
   unfolding alternative-words
-  words-kept = kept-steps (rehop (Fixed 0) steps) some-step (omega (arith, few-steps, P .few)) (small-rehop (Fixed 0) steps (small-in-node (P .node) h))
+  words-kept = kept-steps (rehop (Fixed 0) steps) some-step (omega (arith, few-steps, P .few)) (small-rehop (Fixed 0) steps (an-alternative-has-small-atoms t n i (P .node .formed) (P .node .inside) h))
 
   pub placed-number : Numbered t n i
   placed-number = record { node = P .node; index = h }

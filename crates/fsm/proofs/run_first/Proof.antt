@@ -1,5 +1,5 @@
 -- `run_first` puts the activation, then the store of the first register.
-use Rattle.fsm.proofs.Laws.{before-words}
+use Rattle.words.proofs.Laws.{two-parts}
 use borrow.Author.Needs.{needs}
 use Rattle.fsm.proofs.run_first.Statement.{statement}
 use Rattle.fsm.proofs.run_first.Tie as tie
@@ -23,7 +23,7 @@ same-length : tie.Need-same-length
 same-length c = search needs
 
 returns : tie.Need-returns
-returns c = search before-words
+returns c = search two-parts
 
 pub run-first-spec : {M : Type 1} → statement M
 run-first-spec =

@@ -1,5 +1,5 @@
 -- `run_only` puts the activation, then the store of the only register.
-use Rattle.fsm.proofs.Laws.{before-words}
+use Rattle.words.proofs.Laws.{two-parts}
 use borrow.Author.Needs.{needs}
 use Rattle.fsm.proofs.run_only.Statement.{statement}
 use Rattle.fsm.proofs.run_only.Tie as tie
@@ -26,7 +26,7 @@ same-length : tie.Need-same-length
 same-length c = search needs
 
 returns : tie.Need-returns
-returns c = search before-words
+returns c = search two-parts
 
 pub run-only-spec : {M : Type 1} → statement M
 run-only-spec =

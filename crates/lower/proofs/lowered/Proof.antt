@@ -1,5 +1,6 @@
 -- `lowered` checks the table, walks the tree and hands up what refuses it.
-use Rattle.lower.proofs.Laws.{answers-misformed, table-is-formed, answers-stopped, table-is-walked, answers-finished}
+use Rattle.tree.proofs.Checks.{a-checked-table-is-formed}
+use Rattle.lower.proofs.Laws.{answers-misformed, answers-stopped, table-is-walked, answers-finished}
 use borrow.Author.Needs.{needs}
 use Rattle.lower.proofs.lowered.Statement.{statement}
 use Rattle.lower.proofs.lowered.Tie as tie
@@ -20,7 +21,7 @@ returns : tie.Need-returns
 returns c = search answers-misformed
 
 walked-root-requires : tie.Need-walked-root-requires
-walked-root-requires c κs = search table-is-formed
+walked-root-requires c κs = search a-checked-table-is-formed
 
 enum-known-walked : tie.Need-enum-known-walked
 enum-known-walked c = search needs

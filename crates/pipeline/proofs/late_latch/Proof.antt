@@ -1,5 +1,5 @@
 -- `late_latch` puts the delays, then the latch over the last two registers.
-use Rattle.fsm.proofs.Laws.{before-words}
+use Rattle.words.proofs.Laws.{two-parts}
 use borrow.Author.Needs.{needs}
 use Rattle.pipeline.proofs.late_latch.Statement.{statement}
 use Rattle.pipeline.proofs.late_latch.Tie as tie
@@ -50,7 +50,7 @@ same-length : tie.Need-same-length
 same-length c = search needs
 
 returns : tie.Need-returns
-returns c = search before-words
+returns c = search two-parts
 
 pub late-latch-spec : {M : Type 1} → statement M
 late-latch-spec =

@@ -1,5 +1,6 @@
 -- `later` puts the stores of the hop, then those of the term.
-use Rattle.pipeline.proofs.Laws.{later-small, later-atom, later-hop-small, later-term-small, later-hop-room, later-term-room, later-done}
+use Rattle.current.proofs.Walk.{reached-small}
+use Rattle.pipeline.proofs.Laws.{later-small, later-atom, later-term-small, later-hop-room, later-term-room, later-done}
 use borrow.Author.Needs.{needs}
 use Rattle.pipeline.proofs.later.Statement.{statement}
 use Rattle.pipeline.proofs.later.Tie as tie
@@ -14,7 +15,7 @@ term-register-requires : tie.Need-term-register-requires
 term-register-requires c κs = search later-small
 
 hop-over-requires : tie.Need-hop-over-requires
-hop-over-requires c κs = (search needs, search needs, search later-hop-small, search later-hop-room)
+hop-over-requires c κs = (search needs, search needs, search reached-small, search later-hop-room)
 
 apply-term-requires : tie.Need-apply-term-requires
 apply-term-requires c κs = (search needs, search later-atom, search later-term-small, search later-term-room)

@@ -3,6 +3,7 @@ pub mod Index
 pub mod Every
 pub mod ByKind
 pub mod Counted
+pub mod Radix
 pub mod Numbers
 pub mod Written
 pub mod Room

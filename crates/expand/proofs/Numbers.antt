@@ -5,7 +5,7 @@ use mathlib.Core.Bool.{Bool, true, false}
 use mathlib.Core.List.{List}
 use Prim.Native.Nat.{ℕ, suc, _+_, _*_, _-_, _<_, _≤_, _/_, _%_}
 use native.Mathlib.Omega.{arith}
-use native.Mathlib.Nat.{mod-lt}
+use native.Mathlib.Nat.{mod-lt, div-lt-iff-lt-mul}
 use lib.Dec.{eqb}
 use lib.ListN.{length, getD}
 use borrow.Author.Tests.{leb-true}
@@ -20,10 +20,12 @@ use Rattle.meaning.proofs.Counting.{length-hops}
 use Rattle.words.proofs.Taken.{both-hold}
 use Rattle.expand.specs.declared.Parts.{Parts}
 use Rattle.expand.specs.declared.Block.{Block}
-use Rattle.expand.specs.ByNumber.{alternatives-of, copies-of, nth, hops-between, hop-at, parts-of, copies-count, copies-from-count, block-of, empties, repeats, is-copies, delay-parts, copies-block, Expandable, Numbered, NumberedCopies}
+use Rattle.expand.specs.declared.CopyDigits.{CopyDigits}
+use Rattle.expand.specs.ByNumber.{alternatives-of, copies-of, nth, hops-between, hop-at, parts-of, copies-count, copies-from-count, block-of, empties, repeats, is-copies, delay-parts, copies-block, in-first-block, digits-of, DividesAlike, Expandable, NumberedDelay, NumberedLeft, Numbered, NumberedCopies}
+use Rattle.expand.proofs.Arithmetic.{first-of-blocks}
 use Rattle.expand.proofs.Index.{nth-delay, nth-fixed-from, nth-guarded, digits-below, Digits, nth-copies, copies-index, InBlock, nth-block, length-copies-from, finite-blocks, nth-past-empty}
 use Rattle.expand.proofs.ByKind.{Repetition, repetition, some-alternatives, few-alternatives, well-formed, left-expandable, right-expandable, delay-alternatives, guarded-expandable, throughout-alternatives, copied-expandable, few-copies, copies-in-order, repeated-alternatives}
-use Rattle.expand.proofs.Counted.{length-hops-between, delay-count, throughout-count, copied-some, copied-few, first-few, repeated-count}
+use Rattle.expand.proofs.Counted.{length-hops-between, delay-count, few-hops, throughout-count, copied-some, copied-few, first-few, repeated-count}
 
 -- The k-th hop of a delay.
 nth-hop : (min max k : ℕ) → k < length (hops min (max-of max)) → getD (hops min (max-of max)) k (Fixed 0) ≡ hop-at min max k
@@ -54,24 +56,45 @@ module _ {t : List ℕ} {n i : ℕ} {v : Node} (N : Numbered t n i) (w : v ≡ n
 
   -- ---- delay
 
-  -- `delay_parts`, which has the operands' counts under the names a and b.
-  module _ {a b : ℕ} (k : v .kind ≡ 2) (p : a ≡ length (alternatives-of t (v .p))) (q : b ≡ length (alternatives-of t (v .q))) where
-    pub left-some : 0 < a
-    left-some = rw p (some-alternatives (left-expandable E w k))
+  -- `delay_parts`, which divides by b and by a as by the operands' counts.
+  module _ (k : v .kind ≡ 2) where
+    pub delay-numbered : NumberedDelay t v i
+    delay-numbered = record {
+      left = left-expandable E w k;
+      right = right-expandable E w k;
+      few-hops = few-hops E w k;
+      index = rw (← delay-count E w k) (N .index);
+    }
 
-    pub right-some : 0 < b
-    right-some = rw q (some-alternatives (right-expandable E w k))
+    left-some : 0 < length (alternatives-of t (v .p))
+    left-some = some-alternatives (left-expandable E w k)
+
+    right-some : 0 < length (alternatives-of t (v .q))
+    right-some = some-alternatives (right-expandable E w k)
 
     -- The three digits of the number are below their bases.
-    bounds : Digits i (hops-between (v .min) (v .max)) a b
-    bounds = digits-below i (hops-between (v .min) (v .max)) a b left-some right-some (rw (p, q, ← delay-count E w k) (N .index))
+    bounds : Digits i (hops-between (v .min) (v .max)) (length (alternatives-of t (v .p))) (length (alternatives-of t (v .q)))
+    bounds = digits-below i _ _ _ left-some right-some (delay-numbered .index)
 
-    pub hop-small : v .max < 4294967296 → v .min + i / b / a < 4294967296
-    hop-small z = hop-fits (v .min) (v .max) (i / b / a) (well-formed E w .delay-min k) z (bounds .hop)
+    module _ {b : ℕ} (q : DividesAlike i b (length (alternatives-of t (v .q)))) where
+      pub rest-numbered : NumberedLeft t v (i / b)
+      rest-numbered =
+          let h = hops-between (v .min) (v .max) in
+          let l = length (alternatives-of t (v .p)) in
+          let r = length (alternatives-of t (v .q)) in
+          record {
+            left = left-expandable E w k;
+            few-hops = few-hops E w k;
+            index = rw (q .quotient) (div-lt-iff-lt-mul {k = r} {x = i} {y = h * l} right-some .1 (omega (arith, delay-numbered .index)));
+          }
 
-    pub parts-found : {s : Parts} → s ≡ parts-of (v .min) (v .max) i a b → s ≡ delay-parts t n i
-    unfolding delay-parts
-    parts-found c = c ∙ rw (p, q, w) refl
+      module _ {a : ℕ} (p : DividesAlike (i / b) a (length (alternatives-of t (v .p)))) where
+        pub hop-small : v .max < 4294967296 → v .min + i / b / a < 4294967296
+        hop-small z = rw (p .quotient, q .quotient) (hop-fits (v .min) (v .max) _ (well-formed E w .delay-min k) z (bounds .hop))
+
+        pub parts-found : {s : Parts} → s ≡ parts-of (v .min) (v .max) i a b → s ≡ delay-parts t n i
+        unfolding delay-parts parts-of
+        parts-found c = c ∙ rw (p .quotient, p .remainder, q .quotient, q .remainder, w) refl
 
   -- The measure falls: 1024 for each node, which is more than the copies that can be left of one.
   pub left-below : {u : ℕ} → n * 1024 ≡ u → v .kind ≡ 2 → v .p * 1024 < u
@@ -94,21 +117,21 @@ module _ {t : List ℕ} {n i : ℕ} {v : Node} (N : Numbered t n i) (w : v ≡ n
 
     pub left-numbered : Numbered t (v .p) (s .left)
     unfolding parts-of
-    left-numbered = record { node = left-expandable E w k; index = rw apart (bounds k refl refl .left) }
+    left-numbered = record { node = left-expandable E w k; index = rw apart (bounds k .left) }
 
     pub right-numbered : Numbered t (v .q) (s .right)
     unfolding parts-of
-    right-numbered = record { node = right-expandable E w k; index = rw apart (bounds k refl refl .right) }
+    right-numbered = record { node = right-expandable E w k; index = rw apart (bounds k .right) }
 
     pub nth-of-delay : nth (alternatives-of t n) i
         ≡ joined (s .hop) (nth (alternatives-of t (v .p)) (s .left)) (nth (alternatives-of t (v .q)) (s .right))
     unfolding parts-of
     nth-of-delay =
         let hs = hops (v .min) (max-of (v .max)) in
-        let h : i / length rs / length ls < length hs = rw (length-hops-between (v .min) (v .max)) (bounds k refl refl .hop) in
+        let h : i / length rs / length ls < length hs = rw (length-hops-between (v .min) (v .max)) (bounds k .hop) in
         rw apart
         (ap (λ (z : List SeqAlt). nth z i) (delay-alternatives E w k)
-        ∙ nth-delay hs ls rs i (left-some k refl refl) (right-some k refl refl) (rw (delay-alternatives E w k) at (N .index))
+        ∙ nth-delay hs ls rs i (left-some k) (right-some k) (rw (delay-alternatives E w k) at (N .index))
         ∙ ap (λ (z : SeqHop). joined z (nth ls (i / length rs % length ls)) (nth rs (i % length rs))) (nth-hop (v .min) (v .max) _ h))
 
   -- ---- throughout: the operand's alternative of the same number, with one guard more
@@ -175,6 +198,17 @@ module _ {t : List ℕ} {n i : ℕ} {v : Node} (N : Numbered t n i) (w : v ≡ n
 
   pub past-empty : empties (v .min) ≤ i
   past-empty = R .past
+
+  -- Where the operand is not counted: the Empties are under the name e.
+  pub past-empties : {e : ℕ} → e ≡ empties (v .min) → e ≤ i
+  past-empties q = rw q (R .past)
+
+  pub first-block-found : {b : Bool} {k e : ℕ} → b ≡ in-first-block (v .min) (v .max) i → b ≡ true → k ≡ v .min - 1
+      → e ≡ empties (v .min) → record { later = k; index = i - e } ≡ copies-block t n i
+  unfolding copies-block
+  first-block-found c y p q =
+      let a = length (alternatives-of t (v .p)) in
+      rw (p, q, ← w) (sym (first-of-blocks a (v .min) (v .max) i (copied-some E′ w Q refl) (sym c ∙ y)))
 
   module _ {a : ℕ} (p : a ≡ length (alternatives-of t (v .p))) where
     pub base-some : 0 < a
@@ -248,10 +282,11 @@ module _ {t : List ℕ} {n k i : ℕ} (C : NumberedCopies t n k i) where
   pub copy-expandable : Expandable t n
   copy-expandable = C .node
 
-  pub copy-some : {a : ℕ} → a ≡ length (alternatives-of t n) → 0 < a
-  copy-some e = rw e (some-alternatives (C .node))
+  -- `repeated`, which has the two numbers under the name s.
+  module _ {s : CopyDigits} (z : k ≡ 0 → ⊥) (e : s ≡ digits-of (length (alternatives-of t n)) i) where
+    some : 0 < length (alternatives-of t n)
+    some = some-alternatives (C .node)
 
-  module _ {a : ℕ} (z : k ≡ 0 → ⊥) (e : a ≡ length (alternatives-of t n)) where
     one-more : k ≡ suc (k - 1)
     one-more = omega arith
 
@@ -262,21 +297,22 @@ module _ {t : List ℕ} {n k i : ℕ} (C : NumberedCopies t n k i) where
     unfolding copies-of
     numbered = subst (λ (m : ℕ). i < length (copies (alternatives-of t n) m)) one-more (C .index)
 
-    pub earlier-numbered : NumberedCopies t n (k - 1) (i / a)
-    unfolding copies-of
+    pub earlier-numbered : NumberedCopies t n (k - 1) (s .earlier)
+    unfolding copies-of digits-of
     earlier-numbered = record {
       node = C .node;
       few = omega (arith, C .few);
-      index = rw e (copies-index (alternatives-of t n) (k - 1) i (copy-some refl) numbered);
+      index = rw e (copies-index (alternatives-of t n) (k - 1) i some numbered);
     }
 
-    pub last-numbered : Numbered t n (i % a)
-    last-numbered = record { node = C .node; index = rw (← e) (mod-lt i (copy-some e)) }
+    pub last-numbered : Numbered t n (s .last)
+    unfolding digits-of
+    last-numbered = record { node = C .node; index = rw e (mod-lt i some) }
 
     pub nth-of-copies : nth (copies-of (alternatives-of t n) k) i
-        ≡ joined (Fixed 1) (nth (copies-of (alternatives-of t n) (k - 1)) (i / a)) (nth (alternatives-of t n) (i % a))
-    unfolding copies-of
+        ≡ joined (Fixed 1) (nth (copies-of (alternatives-of t n) (k - 1)) (s .earlier)) (nth (alternatives-of t n) (s .last))
+    unfolding copies-of digits-of
     nth-of-copies =
         ap (λ (m : ℕ). nth (copies (alternatives-of t n) m) i) one-more
-        ∙ nth-copies (alternatives-of t n) (k - 1) i (copy-some refl) numbered
+        ∙ nth-copies (alternatives-of t n) (k - 1) i some numbered
         ∙ rw e refl

@@ -3,7 +3,7 @@
 use mathlib.Core.Path.{_≡_, refl, sym, ap, _∙_}
 use mathlib.Core.Bool.{Bool, false}
 use mathlib.Core.List.{List, [], _∷_, _++_, append-assoc, append-nil}
-use Prim.Native.Nat.{ℕ, _+_, _-_, _<_, _≤_, _/_, _%_}
+use Prim.Native.Nat.{ℕ, _+_, _-_, _<_, _≤_}
 use native.Mathlib.Omega.{arith}
 use lib.ListN.{length}
 use Rattle.words.specs.Written.{Wrote}
@@ -18,7 +18,8 @@ use Rattle.meaning.specs.Tree.{node-at, tree-at}
 use Rattle.meaning.specs.Alternative.{SeqAlt, step, single, rehop, joined, expand, copies}
 use Rattle.expand.specs.declared.Parts.{Parts}
 use Rattle.expand.specs.declared.Block.{Block}
-use Rattle.expand.specs.ByNumber.{alternatives-of, copies-of, nth, alternative-words, is-copies, single-term, delay-parts, copies-block, Numbered, NumberedCopies}
+use Rattle.expand.specs.declared.CopyDigits.{CopyDigits}
+use Rattle.expand.specs.ByNumber.{alternatives-of, copies-of, nth, alternative-words, is-copies, single-term, delay-parts, copies-block, digits-of, Numbered, NumberedCopies}
 use Rattle.expand.proofs.Every.{has-step, each-expanded, each-copies, each-nth}
 use Rattle.expand.proofs.ByKind.{single-alternative}
 use Rattle.expand.proofs.Numbers.{Copied, nth-of-delay, nth-of-throughout, nth-of-block, nth-of-only, nth-of-copies}
@@ -156,25 +157,25 @@ module _ {t : List ℕ} {n k i : ℕ} (h : SeqHop) (o : List ℕ) (at : ℕ) (C 
   only-written e x = same-words (sym (only-words e)) x
 
   -- the earlier copies, then the last
-  module _ {a : ℕ} (m : k ≡ 0 → ⊥) (e : a ≡ length (alternatives-of t n)) where
+  module _ {s : CopyDigits} (m : k ≡ 0 → ⊥) (e : s ≡ digits-of (length (alternatives-of t n)) i) where
     abbrev earlier : List ℕ
-    earlier = copies-words t n (k - 1) h (i / a)
+    earlier = copies-words t n (k - 1) h (s .earlier)
 
     abbrev last-copy : List ℕ
-    last-copy = node-words t n (Fixed 1) (i % a)
+    last-copy = node-words t n (Fixed 1) (s .last)
 
     all-words : copies-words t n k h i ≡ earlier ++ last-copy
     all-words =
         words-of-two h (Fixed 1) (copies-of (alternatives-of t n) k) (copies-of (alternatives-of t n) (k - 1))
-        (alternatives-of t n) i (i / a) (i % a) (nth-of-copies C m e) (some-copied-steps t n (k - 1) (i / a))
+        (alternatives-of t n) i (s .earlier) (s .last) (nth-of-copies C m e) (some-copied-steps t n (k - 1) (s .earlier))
 
-    pub earlier-room : at + length (copies-words t n (k - 1) h (i / a)) ≤ length o
+    pub earlier-room : at + length (copies-words t n (k - 1) h (s .earlier)) ≤ length o
     earlier-room = first-room at earlier last-copy all-words room
 
-    module _ {o₁ : List ℕ} {z : ℕ} (x : Wrote o o₁ at z (copies-words t n (k - 1) h (i / a))) where
-      pub last-room : z + length (node-words t n (Fixed 1) (i % a)) ≤ length o₁
+    module _ {o₁ : List ℕ} {z : ℕ} (x : Wrote o o₁ at z (copies-words t n (k - 1) h (s .earlier))) where
+      pub last-room : z + length (node-words t n (Fixed 1) (s .last)) ≤ length o₁
       last-room = second-room earlier last-copy all-words room x
 
-      pub copies-written : {o₂ : List ℕ} {y : ℕ} → Wrote o₁ o₂ z y (node-words t n (Fixed 1) (i % a))
+      pub copies-written : {o₂ : List ℕ} {y : ℕ} → Wrote o₁ o₂ z y (node-words t n (Fixed 1) (s .last))
           → Wrote o o₂ at y (copies-words t n k h i)
       copies-written y = both-done all-words x y

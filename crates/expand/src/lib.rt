@@ -8,7 +8,7 @@ ghost use Prim.Native.Nat.{_+_, _*_, _-_, _/_, _≤_, _<_};
 ghost use lib.ListN.{length};
 ghost use Rattle.words.specs.Written.{Wrote};
 ghost use Rattle.meaning.specs.Tree.{node-at};
-ghost use Rattle.expand.specs.ByNumber.{alternatives-of, copies-of, alternative-words, hops-between, hop-at, parts-of, copies-count, copies-from-count, block-of, empties, repeats, is-copies, single-count, single-term, delay-parts, copies-block, OperandInside, Expandable, Numbered, NumberedCopies};
+ghost use Rattle.expand.specs.ByNumber.{alternatives-of, copies-of, alternative-words, hops-between, hop-at, parts-of, copies-count, copies-from-count, block-of, empties, repeats, is-copies, single-count, single-term, delay-parts, copies-block, in-first-block, digits-of, DividesAlike, OperandInside, Expandable, NumberedDelay, NumberedLeft, Numbered, NumberedCopies};
 
 // What an alternative of a delay is made of: its hop, and the numbers of the left's and the right's alternative.
 pub struct Parts {
@@ -22,6 +22,15 @@ pub struct Block {
     pub later: u32,
     pub index: u32,
 }
+
+// What an alternative of several copies is made of: the number of the earlier copies' alternative, and of the last copy's.
+pub struct CopyDigits {
+    pub earlier: u32,
+    pub last: u32,
+}
+
+// 10: no node that the walk let pass has more alternatives, so that a number below a count is below this.
+const MOST: u32 = 256;
 
 // How many hops a delay has.
 fn hop_count(min: u32, max: u32) -> u32
@@ -221,15 +230,74 @@ pub fn alternatives(t: &[u32], n: u32) -> u32
     count_singles(v)
 }
 
+// Whether the left is worth counting before the right: it is surely the smaller one, or none of its operands is counted.
+// Speed alone hangs on it.
+fn left_first(t: &[u32], v: meaning::Node) -> bool
+    requires { ⌜ Expandable (now t) (v .p) ⌝ }
+{
+    if v.p < v.q / 2 {
+        return true;
+    }
+    let left = tree::read(t, v.p);
+    if left.kind < 4 {
+        return left.kind == 1;
+    }
+    left.kind < 6
+}
+
+// What divides i as the right's count does. The right is not counted where i is surely below its count: i is 0, or one hop
+// and one left alternative leave i to the right alone.
+fn right_radix(t: &[u32], v: meaning::Node, i: u32) -> u32
+    requires { ⌜ NumberedDelay (now t) v i ⌝ }
+    ensures { λ r. ⌜ DividesAlike i r (length (alternatives-of (now (t .entry)) (v .q))) ⌝ }
+{
+    if i == 0 {
+        return MOST;
+    }
+    if hop_count(v.min, v.max) == 1 {
+        if left_first(t, v) {
+            if alternatives(t, v.p) == 1 {
+                return MOST;
+            }
+        }
+    }
+    alternatives(t, v.q)
+}
+
+// What divides the rest as the left's count does. With one hop, the rest is the left's alone.
+fn left_radix(t: &[u32], v: meaning::Node, rest: u32) -> u32
+    requires { ⌜ NumberedLeft (now t) v rest ⌝ }
+    ensures { λ r. ⌜ DividesAlike rest r (length (alternatives-of (now (t .entry)) (v .p))) ⌝ }
+{
+    if rest == 0 {
+        return MOST;
+    }
+    if hop_count(v.min, v.max) == 1 {
+        return MOST;
+    }
+    alternatives(t, v.p)
+}
+
 // What alternative i of the delay n is made of.
 pub fn delay_parts(t: &[u32], n: u32, i: u32) -> Parts
     requires { ⌜ Numbered (now t) n i × (node-at (now t) n .kind ≡ 2) ⌝ }
     ensures { λ r. ⌜ r ≡ delay-parts (now (t .entry)) n i ⌝ }
 {
     let v = tree::read(t, n);
-    let a = alternatives(t, v.p);
-    let b = alternatives(t, v.q);
+    let b = right_radix(t, v, i);
+    let a = left_radix(t, v, i / b);
     take_apart(v.min, v.max, i, a, b)
+}
+
+// Whether alternative i of a repetition is of its first block whatever the operand's count: no other follows, or i is the first.
+fn is_in_first_block(min: u32, max: u32, i: u32) -> bool
+    requires { ⌜ min ≤ max ⌝ }
+    ensures { λ r. ⌜ r ≡ in-first-block min max i ⌝ }
+{
+    if max - one_less(min) == 1 {
+        return true;
+    }
+    i == empty_count(min)
 }
 
 // Where alternative i of the repetition n stands, past its Empty.
@@ -238,8 +306,32 @@ pub fn copies_block(t: &[u32], n: u32, i: u32) -> Block
     ensures { λ r. ⌜ r ≡ copies-block (now (t .entry)) n i ⌝ }
 {
     let v = tree::read(t, n);
+    if is_in_first_block(v.min, v.max, i) {
+        return Block {
+            later: one_less(v.min),
+            index: i - empty_count(v.min),
+        };
+    }
     let a = alternatives(t, v.p);
     place(v.min, v.max, a, i)
+}
+
+// What alternative i of several copies of node n is made of. Number 0 is made of those of number 0, and nothing is counted.
+pub fn copy_digits(t: &[u32], n: u32, i: u32) -> CopyDigits
+    requires { ⌜ Expandable (now t) n ⌝ }
+    ensures { λ r. ⌜ r ≡ digits-of (length (alternatives-of (now (t .entry)) n)) i ⌝ }
+{
+    if i == 0 {
+        return CopyDigits {
+            earlier: 0,
+            last: 0,
+        };
+    }
+    let a = alternatives(t, n);
+    CopyDigits {
+        earlier: i / a,
+        last: i % a,
+    }
 }
 
 // The one term of alternative i of a node that has none of an operand's alternatives in it.
@@ -311,7 +403,7 @@ fn repeated(
     if k == 0 {
         return alternative(t, n, i, h, work, at);
     }
-    let a = alternatives(t, n);
-    let w = repeated(t, n, k - 1, i / a, h, work, at);
-    alternative(t, n, i % a, meaning::SeqHop::Fixed(1), work, w)
+    let s = copy_digits(t, n, i);
+    let w = repeated(t, n, k - 1, s.earlier, h, work, at);
+    alternative(t, n, s.last, meaning::SeqHop::Fixed(1), work, w)
 }

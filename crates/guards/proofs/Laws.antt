@@ -3,7 +3,7 @@
 use mathlib.Core.Path.{_≡_, refl, sym, ap, _∙_}
 use mathlib.Core.Bool.{Bool, false}
 use mathlib.Core.List.{List, [], _∷_, _++_, append-nil}
-use Prim.Native.Nat.{ℕ, _+_, _-_, _<_, _≤_, _/_, _%_}
+use Prim.Native.Nat.{ℕ, _+_, _-_, _<_, _≤_}
 use native.Mathlib.Omega.{arith}
 use lib.ListN.{length, length-append}
 use borrow.Author.Tests.{eq-eqb, ne-eqb}
@@ -19,7 +19,8 @@ use Rattle.meaning.specs.Alternative.{Guard, unguarded, guard, and-opt, SeqAlt}
 use Rattle.meaning.proofs.Emitted.{some-words}
 use Rattle.expand.specs.declared.Parts.{Parts}
 use Rattle.expand.specs.declared.Block.{Block}
-use Rattle.expand.specs.ByNumber.{alternatives-of, copies-of, nth, is-copies, delay-parts, copies-block, Numbered, NumberedCopies}
+use Rattle.expand.specs.declared.CopyDigits.{CopyDigits}
+use Rattle.expand.specs.ByNumber.{alternatives-of, copies-of, nth, is-copies, delay-parts, copies-block, digits-of, Numbered, NumberedCopies}
 use Rattle.expand.proofs.ByKind.{well-formed, single-alternative}
 use Rattle.expand.proofs.Numbers.{Copied, nth-of-delay, nth-of-throughout, nth-of-block, nth-of-only, nth-of-copies}
 use Rattle.guards.specs.GuardText.{guard-expression, guard-text, closed-guard, joining}
@@ -204,29 +205,29 @@ module _ {t : List ℕ} {n k i : ℕ} (o : List ℕ) (at : ℕ) (C : NumberedCop
   only-guarded e x = same-words (sym (only-guard e)) x
 
   -- the earlier copies, then the last
-  module _ {a : ℕ} (m : k ≡ 0 → ⊥) (e : a ≡ length (alternatives-of t n)) where
+  module _ {s : CopyDigits} (m : k ≡ 0 → ⊥) (e : s ≡ digits-of (length (alternatives-of t n)) i) where
     abbrev all : Guard
     all = nth (copies-of (alternatives-of t n) k) i .guard
 
     abbrev earlier : Guard
-    earlier = nth (copies-of (alternatives-of t n) (k - 1)) (i / a) .guard
+    earlier = nth (copies-of (alternatives-of t n) (k - 1)) (s .earlier) .guard
 
     abbrev last-copy : Guard
-    last-copy = nth (alternatives-of t n) (i % a) .guard
+    last-copy = nth (alternatives-of t n) (s .last) .guard
 
     copies-guarded-by : all ≡ and-opt earlier last-copy
     copies-guarded-by = ap (λ (y : SeqAlt). y .guard) (nth-of-copies C m e)
 
-    pub earlier-room : at + length (copies-guard t n (k - 1) (i / a)) ≤ length o
+    pub earlier-room : at + length (copies-guard t n (k - 1) (s .earlier)) ≤ length o
     unfolding guard-text
     earlier-room = first-guard-room all earlier last-copy copies-guarded-by o at room
 
-    module _ {o₁ : List ℕ} {middle : ℕ} (x : Wrote o o₁ at middle (copies-guard t n (k - 1) (i / a))) where
-      pub last-room : middle + length (node-guard t n (i % a)) ≤ length o₁
+    module _ {o₁ : List ℕ} {middle : ℕ} (x : Wrote o o₁ at middle (copies-guard t n (k - 1) (s .earlier))) where
+      pub last-room : middle + length (node-guard t n (s .last)) ≤ length o₁
       unfolding guard-text
       last-room = second-guard-room all earlier last-copy copies-guarded-by o at room x
 
-      module _ {o₂ : List ℕ} {end : ℕ} (y : Wrote o₁ o₂ middle end (node-guard t n (i % a))) where
+      module _ {o₂ : List ℕ} {end : ℕ} (y : Wrote o₁ o₂ middle end (node-guard t n (s .last))) where
         pub copies-join-room : end + length (joining at middle end) ≤ length o₂
         unfolding guard-text
         copies-join-room = join-room all earlier last-copy copies-guarded-by o at room x y

@@ -73,9 +73,9 @@ fn repeated_guard(t: &[u32], n: u32, k: u32, i: u32, work: &mut [u32], at: usize
     if k == 0 {
         return guard_text(t, n, i, work, at);
     }
-    let a = expand::alternatives(t, n);
-    let middle = repeated_guard(t, n, k - 1, i / a, work, at);
-    let end = guard_text(t, n, i % a, work, middle);
+    let s = expand::copy_digits(t, n, i);
+    let middle = repeated_guard(t, n, k - 1, s.earlier, work, at);
+    let end = guard_text(t, n, s.last, work, middle);
     join_guards(work, at, middle, end)
 }
 

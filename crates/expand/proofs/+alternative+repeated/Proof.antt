@@ -2,7 +2,7 @@
 use borrow.Author.Needs.{needs}
 use Prim.Native.Nat.{_+_, _*_}
 use Rattle.expand.proofs.ByKind.{operand-inside}
-use Rattle.expand.proofs.Numbers.{kind-read, left-below, right-below, left-numbered, right-numbered, guarded-below, guarded-numbered, copied, copies-read, block-below, block-numbered, only-below, only-numbered, copy-expandable, copy-some, earlier-below, earlier-numbered, last-numbered}
+use Rattle.expand.proofs.Numbers.{kind-read, left-below, right-below, left-numbered, right-numbered, guarded-below, guarded-numbered, copied, copies-read, block-below, block-numbered, only-below, only-numbered, copy-expandable, earlier-below, earlier-numbered, last-numbered}
 use Rattle.expand.proofs.Written.{left-room, right-room, delay-written, guarded-room, throughout-written, block-room, block-written, single-room, single-written, only-room, only-written, earlier-room, last-room, copies-written}
 use Prim.Native.Nat.{ℕ, _<_}
 use borrow.Fn.Kinds.{In}
@@ -13,8 +13,8 @@ use Rattle.expand.proofs.+alternative+repeated.Lts-alternative as alter
 use Rattle.expand.proofs.repeated.Reads as repeated
 use Rattle.expand.proofs.repeated.Kinds as repeated-kinds
 use Rattle.expand.proofs.+alternative+repeated.Lts-repeated as repeated-lts
-use Rattle.expand.proofs.alternatives.Reads as alternatives-reads
 use Rattle.expand.proofs.copies_block.Reads as copies-block-reads
+use Rattle.expand.proofs.copy_digits.Reads as copy-digits-reads
 use Rattle.expand.proofs.delay_parts.Reads as delay-parts-reads
 use Rattle.expand.proofs.made_of_copies.Reads as made-of-copies-reads
 use Rattle.expand.proofs.single_term.Reads as single-term-reads
@@ -104,37 +104,31 @@ alternative-same-length-4 t c = search needs
 alternative-returns-4 : (t : ℕ) → alternative-lts.Need-returns-4 (callees t) (alternative-at t) alternative.Post
 alternative-returns-4 t c = search single-written
 
-repeated-alternative-requires : (t : ℕ) → repeated-lts.Need-alternative-requires (alternative-below t, alternative.Post, alternatives-reads.Asked, alternatives-reads.Learnt, repeated-below t, repeated.Post) (repeated-at t) repeated.Post
+repeated-alternative-requires : (t : ℕ) → repeated-lts.Need-alternative-requires (alternative-below t, alternative.Post, copy-digits-reads.Asked, copy-digits-reads.Learnt, repeated-below t, repeated.Post) (repeated-at t) repeated.Post
 repeated-alternative-requires t c κs = (search only-below, (search only-numbered, search only-room))
 
-repeated-same-length : (t : ℕ) → repeated-lts.Need-same-length (alternative-below t, alternative.Post, alternatives-reads.Asked, alternatives-reads.Learnt, repeated-below t, repeated.Post) (repeated-at t) repeated.Post
+repeated-same-length : (t : ℕ) → repeated-lts.Need-same-length (alternative-below t, alternative.Post, copy-digits-reads.Asked, copy-digits-reads.Learnt, repeated-below t, repeated.Post) (repeated-at t) repeated.Post
 repeated-same-length t c = search needs
 
-repeated-returns : (t : ℕ) → repeated-lts.Need-returns (alternative-below t, alternative.Post, alternatives-reads.Asked, alternatives-reads.Learnt, repeated-below t, repeated.Post) (repeated-at t) repeated.Post
+repeated-returns : (t : ℕ) → repeated-lts.Need-returns (alternative-below t, alternative.Post, copy-digits-reads.Asked, copy-digits-reads.Learnt, repeated-below t, repeated.Post) (repeated-at t) repeated.Post
 repeated-returns t c = search only-written
 
-repeated-alternatives-requires : (t : ℕ) → repeated-lts.Need-alternatives-requires (alternative-below t, alternative.Post, alternatives-reads.Asked, alternatives-reads.Learnt, repeated-below t, repeated.Post) (repeated-at t) repeated.Post
-repeated-alternatives-requires t c κs = search copy-expandable
+repeated-copy-digits-requires : (t : ℕ) → repeated-lts.Need-copy-digits-requires (alternative-below t, alternative.Post, copy-digits-reads.Asked, copy-digits-reads.Learnt, repeated-below t, repeated.Post) (repeated-at t) repeated.Post
+repeated-copy-digits-requires t c κs = search copy-expandable
 
-repeated-sub-repeated : (t : ℕ) → repeated-lts.Need-sub-repeated (alternative-below t, alternative.Post, alternatives-reads.Asked, alternatives-reads.Learnt, repeated-below t, repeated.Post) (repeated-at t) repeated.Post
+repeated-sub-repeated : (t : ℕ) → repeated-lts.Need-sub-repeated (alternative-below t, alternative.Post, copy-digits-reads.Asked, copy-digits-reads.Learnt, repeated-below t, repeated.Post) (repeated-at t) repeated.Post
 repeated-sub-repeated t c = search needs
 
-repeated-div-repeated : (t : ℕ) → repeated-lts.Need-div-repeated (alternative-below t, alternative.Post, alternatives-reads.Asked, alternatives-reads.Learnt, repeated-below t, repeated.Post) (repeated-at t) repeated.Post
-repeated-div-repeated t c = search copy-some
-
-repeated-repeated-requires : (t : ℕ) → repeated-lts.Need-repeated-requires (alternative-below t, alternative.Post, alternatives-reads.Asked, alternatives-reads.Learnt, repeated-below t, repeated.Post) (repeated-at t) repeated.Post
+repeated-repeated-requires : (t : ℕ) → repeated-lts.Need-repeated-requires (alternative-below t, alternative.Post, copy-digits-reads.Asked, copy-digits-reads.Learnt, repeated-below t, repeated.Post) (repeated-at t) repeated.Post
 repeated-repeated-requires t c κs = (search earlier-below, (search earlier-numbered, search earlier-room))
 
-repeated-rem-alternative : (t : ℕ) → repeated-lts.Need-rem-alternative (alternative-below t, alternative.Post, alternatives-reads.Asked, alternatives-reads.Learnt, repeated-below t, repeated.Post) (repeated-at t) repeated.Post
-repeated-rem-alternative t c = search copy-some
-
-repeated-alternative-requires-2 : (t : ℕ) → repeated-lts.Need-alternative-requires-2 (alternative-below t, alternative.Post, alternatives-reads.Asked, alternatives-reads.Learnt, repeated-below t, repeated.Post) (repeated-at t) repeated.Post
+repeated-alternative-requires-2 : (t : ℕ) → repeated-lts.Need-alternative-requires-2 (alternative-below t, alternative.Post, copy-digits-reads.Asked, copy-digits-reads.Learnt, repeated-below t, repeated.Post) (repeated-at t) repeated.Post
 repeated-alternative-requires-2 t c κs = (search only-below, (search last-numbered, search last-room))
 
-repeated-same-length-2 : (t : ℕ) → repeated-lts.Need-same-length-2 (alternative-below t, alternative.Post, alternatives-reads.Asked, alternatives-reads.Learnt, repeated-below t, repeated.Post) (repeated-at t) repeated.Post
+repeated-same-length-2 : (t : ℕ) → repeated-lts.Need-same-length-2 (alternative-below t, alternative.Post, copy-digits-reads.Asked, copy-digits-reads.Learnt, repeated-below t, repeated.Post) (repeated-at t) repeated.Post
 repeated-same-length-2 t c = search needs
 
-repeated-returns-2 : (t : ℕ) → repeated-lts.Need-returns-2 (alternative-below t, alternative.Post, alternatives-reads.Asked, alternatives-reads.Learnt, repeated-below t, repeated.Post) (repeated-at t) repeated.Post
+repeated-returns-2 : (t : ℕ) → repeated-lts.Need-returns-2 (alternative-below t, alternative.Post, copy-digits-reads.Asked, copy-digits-reads.Learnt, repeated-below t, repeated.Post) (repeated-at t) repeated.Post
 repeated-returns-2 t c = search copies-written
 
 pub +alternative+repeated-spec : {M : Type 1} → statement M
@@ -159,17 +153,15 @@ pub +alternative+repeated-spec : {M : Type 1} → statement M
     (alternative-store-requires t)
     (alternative-same-length-4 t)
     (alternative-returns-4 t))
-    λ t. repeated-lts.spec (alternative-below t, alternative.Post, alternatives-reads.Asked, alternatives-reads.Learnt, repeated-below t, repeated.Post)
+    λ t. repeated-lts.spec (alternative-below t, alternative.Post, copy-digits-reads.Asked, copy-digits-reads.Learnt, repeated-below t, repeated.Post)
     (repeated-at t)
     repeated.Post
     (repeated-alternative-requires t)
     (repeated-same-length t)
     (repeated-returns t)
-    (repeated-alternatives-requires t)
+    (repeated-copy-digits-requires t)
     (repeated-sub-repeated t)
-    (repeated-div-repeated t)
     (repeated-repeated-requires t)
-    (repeated-rem-alternative t)
     (repeated-alternative-requires-2 t)
     (repeated-same-length-2 t)
     (repeated-returns-2 t)

@@ -1,6 +1,5 @@
--- `delay_parts` takes the number apart by the operands' counts.
-use Rattle.expand.proofs.ByKind.{left-expandable, right-expandable}
-use Rattle.expand.proofs.Numbers.{read-kind, left-some, right-some, hop-small, parts-found}
+-- `delay_parts` takes the number apart by what divides as the operands' counts do.
+use Rattle.expand.proofs.Numbers.{read-kind, delay-numbered, rest-numbered, hop-small, parts-found}
 use borrow.Author.Needs.{needs}
 use Rattle.expand.proofs.delay_parts.Statement.{statement}
 use Rattle.expand.proofs.delay_parts.Tie as tie
@@ -8,14 +7,17 @@ use Rattle.expand.proofs.delay_parts.Tie as tie
 read-requires : tie.Need-read-requires
 read-requires c κs = search needs
 
-alternatives-requires : tie.Need-alternatives-requires
-alternatives-requires c κs = search (left-expandable, read-kind)
+right-radix-requires : tie.Need-right-radix-requires
+right-radix-requires c κs = search (delay-numbered, read-kind)
 
-alternatives-requires-2 : tie.Need-alternatives-requires-2
-alternatives-requires-2 c κs = search (right-expandable, read-kind)
+div-left-radix : tie.Need-div-left-radix
+div-left-radix c = search needs
+
+left-radix-requires : tie.Need-left-radix-requires
+left-radix-requires c κs = search (rest-numbered, read-kind)
 
 take-apart-requires : tie.Need-take-apart-requires
-take-apart-requires c κs = (search (left-some, read-kind), search (right-some, read-kind), search (hop-small, read-kind))
+take-apart-requires c κs = (search needs, search needs, search (hop-small, read-kind))
 
 returns : tie.Need-returns
 returns c = search (parts-found, read-kind)
@@ -25,7 +27,8 @@ delay-parts-spec =
     tie.close
     (tie.spec
     read-requires
-    alternatives-requires
-    alternatives-requires-2
+    right-radix-requires
+    div-left-radix
+    left-radix-requires
     take-apart-requires
     returns)

@@ -2,7 +2,7 @@
 -- copies left.
 use borrow.Author.Needs.{needs}
 use Prim.Native.Nat.{_+_, _*_}
-use Rattle.expand.proofs.Numbers.{kind-read, left-below, right-below, left-numbered, right-numbered, guarded-below, guarded-numbered, copied, copies-read, block-below, block-numbered, only-below, only-numbered, copy-expandable, copy-some, earlier-below, earlier-numbered, last-numbered}
+use Rattle.expand.proofs.Numbers.{kind-read, left-below, right-below, left-numbered, right-numbered, guarded-below, guarded-numbered, copied, copies-read, block-below, block-numbered, only-below, only-numbered, copy-expandable, earlier-below, earlier-numbered, last-numbered}
 use Rattle.guards.proofs.Laws.{left-room, right-room, delay-join-room, delay-guarded, condition-small, under-room, condition-room, throughout-join-room, throughout-guarded, block-room, block-guarded, single-unguarded, only-room, only-guarded, earlier-room, last-room, copies-join-room, copies-guarded}
 use Prim.Native.Nat.{ℕ, _<_}
 use borrow.Fn.Kinds.{In}
@@ -13,8 +13,8 @@ use Rattle.guards.proofs.+guard_text+repeated_guard.Lts-guard_text as g
 use Rattle.guards.proofs.repeated_guard.Reads as repeated-guard
 use Rattle.guards.proofs.repeated_guard.Kinds as repeated-guard-kinds
 use Rattle.guards.proofs.+guard_text+repeated_guard.Lts-repeated_guard as repeated-guard-lts
-use Rattle.expand.proofs.alternatives.Reads as alternatives-reads
 use Rattle.expand.proofs.copies_block.Reads as copies-block-reads
+use Rattle.expand.proofs.copy_digits.Reads as copy-digits-reads
 use Rattle.expand.proofs.delay_parts.Reads as delay-parts-reads
 use Rattle.expand.proofs.made_of_copies.Reads as made-of-copies-reads
 use Rattle.guards.proofs.join_guards.Reads as join-guards-reads
@@ -113,45 +113,39 @@ guard-text-returns-3 t c = search (block-guarded, copied)
 guard-text-returns-4 : (t : ℕ) → guard-text-lts.Need-returns-4 (callees t) (guard-text-at t) guard-text.Post
 guard-text-returns-4 t c = search single-unguarded
 
-repeated-guard-guard-text-requires : (t : ℕ) → repeated-guard-lts.Need-guard-text-requires (guard-text-below t, guard-text.Post, alternatives-reads.Asked, alternatives-reads.Learnt, repeated-guard-below t, repeated-guard.Post, join-guards-reads.Asked, join-guards-reads.Learnt) (repeated-guard-at t) repeated-guard.Post
+repeated-guard-guard-text-requires : (t : ℕ) → repeated-guard-lts.Need-guard-text-requires (guard-text-below t, guard-text.Post, copy-digits-reads.Asked, copy-digits-reads.Learnt, repeated-guard-below t, repeated-guard.Post, join-guards-reads.Asked, join-guards-reads.Learnt) (repeated-guard-at t) repeated-guard.Post
 repeated-guard-guard-text-requires t c κs = (search only-below, (search only-numbered, search only-room))
 
-repeated-guard-same-length : (t : ℕ) → repeated-guard-lts.Need-same-length (guard-text-below t, guard-text.Post, alternatives-reads.Asked, alternatives-reads.Learnt, repeated-guard-below t, repeated-guard.Post, join-guards-reads.Asked, join-guards-reads.Learnt) (repeated-guard-at t) repeated-guard.Post
+repeated-guard-same-length : (t : ℕ) → repeated-guard-lts.Need-same-length (guard-text-below t, guard-text.Post, copy-digits-reads.Asked, copy-digits-reads.Learnt, repeated-guard-below t, repeated-guard.Post, join-guards-reads.Asked, join-guards-reads.Learnt) (repeated-guard-at t) repeated-guard.Post
 repeated-guard-same-length t c = search needs
 
-repeated-guard-returns : (t : ℕ) → repeated-guard-lts.Need-returns (guard-text-below t, guard-text.Post, alternatives-reads.Asked, alternatives-reads.Learnt, repeated-guard-below t, repeated-guard.Post, join-guards-reads.Asked, join-guards-reads.Learnt) (repeated-guard-at t) repeated-guard.Post
+repeated-guard-returns : (t : ℕ) → repeated-guard-lts.Need-returns (guard-text-below t, guard-text.Post, copy-digits-reads.Asked, copy-digits-reads.Learnt, repeated-guard-below t, repeated-guard.Post, join-guards-reads.Asked, join-guards-reads.Learnt) (repeated-guard-at t) repeated-guard.Post
 repeated-guard-returns t c = search only-guarded
 
-repeated-guard-alternatives-requires : (t : ℕ) → repeated-guard-lts.Need-alternatives-requires (guard-text-below t, guard-text.Post, alternatives-reads.Asked, alternatives-reads.Learnt, repeated-guard-below t, repeated-guard.Post, join-guards-reads.Asked, join-guards-reads.Learnt) (repeated-guard-at t) repeated-guard.Post
-repeated-guard-alternatives-requires t c κs = search copy-expandable
+repeated-guard-copy-digits-requires : (t : ℕ) → repeated-guard-lts.Need-copy-digits-requires (guard-text-below t, guard-text.Post, copy-digits-reads.Asked, copy-digits-reads.Learnt, repeated-guard-below t, repeated-guard.Post, join-guards-reads.Asked, join-guards-reads.Learnt) (repeated-guard-at t) repeated-guard.Post
+repeated-guard-copy-digits-requires t c κs = search copy-expandable
 
-repeated-guard-sub-repeated-guard : (t : ℕ) → repeated-guard-lts.Need-sub-repeated-guard (guard-text-below t, guard-text.Post, alternatives-reads.Asked, alternatives-reads.Learnt, repeated-guard-below t, repeated-guard.Post, join-guards-reads.Asked, join-guards-reads.Learnt) (repeated-guard-at t) repeated-guard.Post
+repeated-guard-sub-repeated-guard : (t : ℕ) → repeated-guard-lts.Need-sub-repeated-guard (guard-text-below t, guard-text.Post, copy-digits-reads.Asked, copy-digits-reads.Learnt, repeated-guard-below t, repeated-guard.Post, join-guards-reads.Asked, join-guards-reads.Learnt) (repeated-guard-at t) repeated-guard.Post
 repeated-guard-sub-repeated-guard t c = search needs
 
-repeated-guard-div-repeated-guard : (t : ℕ) → repeated-guard-lts.Need-div-repeated-guard (guard-text-below t, guard-text.Post, alternatives-reads.Asked, alternatives-reads.Learnt, repeated-guard-below t, repeated-guard.Post, join-guards-reads.Asked, join-guards-reads.Learnt) (repeated-guard-at t) repeated-guard.Post
-repeated-guard-div-repeated-guard t c = search copy-some
-
-repeated-guard-repeated-guard-requires : (t : ℕ) → repeated-guard-lts.Need-repeated-guard-requires (guard-text-below t, guard-text.Post, alternatives-reads.Asked, alternatives-reads.Learnt, repeated-guard-below t, repeated-guard.Post, join-guards-reads.Asked, join-guards-reads.Learnt) (repeated-guard-at t) repeated-guard.Post
+repeated-guard-repeated-guard-requires : (t : ℕ) → repeated-guard-lts.Need-repeated-guard-requires (guard-text-below t, guard-text.Post, copy-digits-reads.Asked, copy-digits-reads.Learnt, repeated-guard-below t, repeated-guard.Post, join-guards-reads.Asked, join-guards-reads.Learnt) (repeated-guard-at t) repeated-guard.Post
 repeated-guard-repeated-guard-requires t c κs = (search earlier-below, (search earlier-numbered, search earlier-room))
 
-repeated-guard-rem-guard-text : (t : ℕ) → repeated-guard-lts.Need-rem-guard-text (guard-text-below t, guard-text.Post, alternatives-reads.Asked, alternatives-reads.Learnt, repeated-guard-below t, repeated-guard.Post, join-guards-reads.Asked, join-guards-reads.Learnt) (repeated-guard-at t) repeated-guard.Post
-repeated-guard-rem-guard-text t c = search copy-some
-
-repeated-guard-guard-text-requires-2 : (t : ℕ) → repeated-guard-lts.Need-guard-text-requires-2 (guard-text-below t, guard-text.Post, alternatives-reads.Asked, alternatives-reads.Learnt, repeated-guard-below t, repeated-guard.Post, join-guards-reads.Asked, join-guards-reads.Learnt) (repeated-guard-at t) repeated-guard.Post
+repeated-guard-guard-text-requires-2 : (t : ℕ) → repeated-guard-lts.Need-guard-text-requires-2 (guard-text-below t, guard-text.Post, copy-digits-reads.Asked, copy-digits-reads.Learnt, repeated-guard-below t, repeated-guard.Post, join-guards-reads.Asked, join-guards-reads.Learnt) (repeated-guard-at t) repeated-guard.Post
 repeated-guard-guard-text-requires-2 t c κs = (search only-below, (search last-numbered, search last-room))
 
-repeated-guard-join-guards-requires : (t : ℕ) → repeated-guard-lts.Need-join-guards-requires (guard-text-below t, guard-text.Post, alternatives-reads.Asked, alternatives-reads.Learnt, repeated-guard-below t, repeated-guard.Post, join-guards-reads.Asked, join-guards-reads.Learnt) (repeated-guard-at t) repeated-guard.Post
+repeated-guard-join-guards-requires : (t : ℕ) → repeated-guard-lts.Need-join-guards-requires (guard-text-below t, guard-text.Post, copy-digits-reads.Asked, copy-digits-reads.Learnt, repeated-guard-below t, repeated-guard.Post, join-guards-reads.Asked, join-guards-reads.Learnt) (repeated-guard-at t) repeated-guard.Post
 repeated-guard-join-guards-requires t c κs =
     let g = c .before .before .before in
     let r = g .before .before .before .before in
     let a = r .before .before in
     let p = a .before .before .before .before .pre .1 in
-    copies-join-room _ _ (p .0) (p .1) (a .before .if1 .left) (a .alternatives .ensures) (r .repeated-guard .ensures) (g .guard-text2 .ensures)
+    copies-join-room _ _ (p .0) (p .1) (a .before .if1 .left) (a .copy-digits .ensures) (r .repeated-guard .ensures) (g .guard-text2 .ensures)
 
-repeated-guard-same-length-2 : (t : ℕ) → repeated-guard-lts.Need-same-length-2 (guard-text-below t, guard-text.Post, alternatives-reads.Asked, alternatives-reads.Learnt, repeated-guard-below t, repeated-guard.Post, join-guards-reads.Asked, join-guards-reads.Learnt) (repeated-guard-at t) repeated-guard.Post
+repeated-guard-same-length-2 : (t : ℕ) → repeated-guard-lts.Need-same-length-2 (guard-text-below t, guard-text.Post, copy-digits-reads.Asked, copy-digits-reads.Learnt, repeated-guard-below t, repeated-guard.Post, join-guards-reads.Asked, join-guards-reads.Learnt) (repeated-guard-at t) repeated-guard.Post
 repeated-guard-same-length-2 t c = search needs
 
-repeated-guard-returns-2 : (t : ℕ) → repeated-guard-lts.Need-returns-2 (guard-text-below t, guard-text.Post, alternatives-reads.Asked, alternatives-reads.Learnt, repeated-guard-below t, repeated-guard.Post, join-guards-reads.Asked, join-guards-reads.Learnt) (repeated-guard-at t) repeated-guard.Post
+repeated-guard-returns-2 : (t : ℕ) → repeated-guard-lts.Need-returns-2 (guard-text-below t, guard-text.Post, copy-digits-reads.Asked, copy-digits-reads.Learnt, repeated-guard-below t, repeated-guard.Post, join-guards-reads.Asked, join-guards-reads.Learnt) (repeated-guard-at t) repeated-guard.Post
 repeated-guard-returns-2 t c = search copies-guarded
 
 pub +guard-text+repeated-guard-spec : {M : Type 1} → statement M
@@ -176,17 +170,15 @@ pub +guard-text+repeated-guard-spec : {M : Type 1} → statement M
     (guard-text-same-length-3 t)
     (guard-text-returns-3 t)
     (guard-text-returns-4 t))
-    λ t. repeated-guard-lts.spec (guard-text-below t, guard-text.Post, alternatives-reads.Asked, alternatives-reads.Learnt, repeated-guard-below t, repeated-guard.Post, join-guards-reads.Asked, join-guards-reads.Learnt)
+    λ t. repeated-guard-lts.spec (guard-text-below t, guard-text.Post, copy-digits-reads.Asked, copy-digits-reads.Learnt, repeated-guard-below t, repeated-guard.Post, join-guards-reads.Asked, join-guards-reads.Learnt)
     (repeated-guard-at t)
     repeated-guard.Post
     (repeated-guard-guard-text-requires t)
     (repeated-guard-same-length t)
     (repeated-guard-returns t)
-    (repeated-guard-alternatives-requires t)
+    (repeated-guard-copy-digits-requires t)
     (repeated-guard-sub-repeated-guard t)
-    (repeated-guard-div-repeated-guard t)
     (repeated-guard-repeated-guard-requires t)
-    (repeated-guard-rem-guard-text t)
     (repeated-guard-guard-text-requires-2 t)
     (repeated-guard-join-guards-requires t)
     (repeated-guard-same-length-2 t)

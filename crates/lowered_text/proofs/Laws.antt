@@ -1,11 +1,11 @@
 -- The listing stands in front of the output, and its text finds room on the page; bytes that are no tree give the text of a refusal.
 use mathlib.Core.Path.{_≡_, refl, sym, _∙_}
-use mathlib.Core.List.{List, [], _++_, append-nil}
-use Prim.Native.Nat.{ℕ, _+_, _*_, _%_, _<_, _≤_}
+use mathlib.Core.List.{List, append-nil}
+use Prim.Native.Nat.{ℕ, _%_, _<_, _≤_}
 use native.Mathlib.Omega.{arith}
 use borrow.Author.Tests.{lt-ltb, le-ltb, eq-eqb, ne-eqb}
-use lib.ListN.{length, take, drop}
-use lib.Seq.{take-all, take-append-seam, length-take-le}
+use lib.ListN.{length, take}
+use lib.Seq.{take-all, length-take-le}
 use Rattle.words.specs.Written.{Wrote}
 use Rattle.words.proofs.Laws.{length-written, front-written, same-words}
 use Rattle.meaning.specs.Lower.{words-of, lower, output-after}

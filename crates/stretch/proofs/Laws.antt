@@ -11,6 +11,7 @@ use lib.Seq.{drop-drop}
 use borrow.Author.Tests.{lt-ltb, ltb-true, ltb-false}
 use Rattle.words.specs.Choice.{pick, pick-true, pick-false, pick-case}
 use Rattle.words.proofs.Laws.{drop-here}
+use Rattle.words.proofs.Taken.{second-holds}
 use Rattle.meaning.specs.Listing.{is-store, argument}
 use Rattle.meaning.specs.Check.{check, stretch-from, stretch-if, stretch}
 use Rattle.meaning.specs.declared.Checked.{Checked}
@@ -150,13 +151,7 @@ unfolding assignment
 assignment-is-some [] h = h
 assignment-is-some (w ∷ ws) h = omega arith
 
--- What the reader's test says, as `another-at` chooses: it holds if the assignment is not of r and a word is here; it fails
--- if the assignment is of r, or no word is here.
-test-holds : (of-r here : Bool) → pick of-r false here ≡ true → (of-r ≡ false) × (here ≡ true)
-unfolding pick
-test-holds true here e = never (sym e)
-test-holds false here e = (refl, e)
-
+-- The reader's test, as `another-at` chooses, fails if the assignment is of r, or no word is here.
 pub test-fails : {A : Type 0} (of-r here : Bool) → pick of-r false here ≡ false → (of-r ≡ true → A) → (here ≡ false → A) → A
 unfolding pick
 test-fails true here e f g = f refl
@@ -176,7 +171,7 @@ module _ {listing : List ℕ} {r at : ℕ} (g : Walking listing r at) where
     -- Where the test holds, the assignment is passed.
     pub passed : (drives (drop at listing) r ≡ false) × (at < length listing)
     unfolding another-at
-    passed = let t = test-holds (drives (drop at listing) r) (ltb at (length listing)) e in (t .0, ltb-true _ _ (t .1))
+    passed = let t = second-holds (drives (drop at listing) r) e in (t .0, ltb-true _ _ (t .1))
 
     -- The walk goes on behind it.
     pub walking-on : Walking listing r (at + length (assignment-at listing at))

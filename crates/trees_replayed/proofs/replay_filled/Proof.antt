@@ -1,6 +1,5 @@
 -- `replay_filled` lends its arrays whole.
 use Rattle.trees_replayed.proofs.Laws.{filled}
-use borrow.Author.Needs.{needs}
 use Rattle.trees_replayed.proofs.replay_filled.Statement.{statement}
 use Rattle.trees_replayed.proofs.replay_filled.Tie as tie
 

@@ -125,6 +125,10 @@ fn rows() {
     lowering("`a[*256][*256]`", &consecutive(&consecutive(&a, 256, 256), 256, 256));
     lowering("`a ##65536 b`", &delay(&a, &b, 65_536, 65_536));
     lowering("1,365 `a[=1]`, `##[0:$]`", &balanced(&vec![nonconsecutive(&a, 1); 1365], 0, UNLIMITED));
+    let row = |max: &dyn Fn(u32) -> u32| (0..254).fold(a.clone(), |left, level| delay(&left, &b, 0, max(level)));
+    lowering("254 `##0 b` in a row", &row(&|_| 0));
+    lowering("the same, the first eight `##[0:1]`", &row(&|level| u32::from(level < 8)));
+    lowering("the same, the last eight `##[0:1]`", &row(&|level| u32::from(level > 245)));
     println!("\n| tick | registers | words | here, ns | C checked once, ns | C checked at every tick, ns | here / once | here / every |");
     println!("|---|---|---|---|---|---|---|---|");
     ticking("`a ##1 b`", &delay(&a, &b, 1, 1));

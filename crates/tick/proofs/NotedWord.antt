@@ -3,27 +3,26 @@
 use mathlib.Core.Path.{_≡_, refl, sym, _∙_}
 use mathlib.Core.Bool.{Bool, true, false}
 use mathlib.Core.List.{List, []}
-use Prim.Native.Nat.{ℕ, _+_, _<_, _≤_, max}
+use Prim.Native.Nat.{ℕ, _+_, _-_, _<_, _≤_, max}
 use native.Mathlib.Nat.{add-zero, max-zero}
 use native.Mathlib.Omega.{arith}
 use lib.Dec.{eqb, ltb}
 use lib.ListN.{length, getD, List·getD-eq-default}
-use borrow.Author.Tests.{ne-eqb, lt-ltb, le-ltb, le-leb, lt-leb}
-use Rattle.words.specs.Choice.{pick, pick-true, pick-false}
-use Rattle.meaning.specs.Listing.{operation, argument, rows, row-of, height, is-store}
+use borrow.Author.Tests.{ne-eqb, eqb-false, lt-ltb, le-ltb, le-leb, lt-leb}
+use Rattle.words.specs.Choice.{pick, pick-true, pick-false, pick-case}
+use Rattle.meaning.specs.Listing.{operation, argument, rows, row-of, is-store}
 use Rattle.meaning.specs.Check.{argument-fits, operands-fit, word-fits}
 use Rattle.meaning.specs.declared.Row.{Row}
-use Rattle.listing.specs.Operands.{OperandFound}
-use Rattle.listing.proofs.Laws.{end-row}
+use Rattle.listing.proofs.Laws.{value-row, end-row}
 use Rattle.tick.specs.Survey.{raised-by, tallied, noted}
 use Rattle.tick.specs.declared.Tally.{Tally}
 use Rattle.tick.specs.declared.Noted.{Noted}
 use Rattle.tick.specs.declared.Noted.the-variants.{Fits, Unfit}
 
--- The tally with what `height_with` and `larger` answer.
-pub raised-height : {h d : ℕ} (w : ℕ) (s : Tally) → h ≡ height (s .height) w → d ≡ max (s .deepest) h
-    → record { stores = s .stores; height = h; deepest = d; atoms = s .atoms; named = s .named; bits = s .bits } ≡ raised-by w s
-raised-height w s e q = rw (q, e) refl
+-- The tally with what `larger` answers.
+pub raised-height : {d : ℕ} (v : Row) (s : Tally) → d ≡ max (s .deepest) (s .height - v .takes + v .leaves)
+    → record { stores = s .stores; height = s .height - v .takes + v .leaves; deepest = d; atoms = s .atoms; named = s .named; bits = s .bits } ≡ raised-by v s
+raised-height v s e = rw e refl
 
 -- A choice whose test is made of tests, taken test by test.
 module _ {A : Type 0} (x y : A) where
@@ -95,7 +94,8 @@ module _ (lent : List ℕ) (w : ℕ) (s : Tally) where
       let b : o ≡ 1 → ⊥ = λ z. omega arith in
       let c : o ≡ 2 → ⊥ = λ z. omega arith in
       let d : o ≤ 14 = omega arith in
-      e ∙ rw v (sym (simp (pick-false, ne-eqb _ _ a, ne-eqb _ _ b, ne-eqb _ _ c, le-ltb 14 o d, lt-leb 9 o k) (in-turn _ _ (eqb (argument w) 0) (ltb (s .height) (row-of o .takes)))))
+      let m : o ≡ 14 → ⊥ = λ z. omega arith in
+      e ∙ rw v (sym (simp (pick-false, ne-eqb _ _ m, ne-eqb _ _ a, ne-eqb _ _ b, ne-eqb _ _ c, le-ltb 14 o d, lt-leb 9 o k) (in-turn _ _ (eqb (argument w) 0) (ltb (s .height) (row-of o .takes)))))
 
   -- Operations 3 to 8 with an argument.
   pub filled-argument : 3 ≤ operation w → operation w < 9 → (argument w ≡ 0 → ⊥) → Unfit ≡ noted lent w s
@@ -112,94 +112,79 @@ module _ (lent : List ℕ) (w : ℕ) (s : Tally) where
       let c : o ≡ 2 → ⊥ = λ z. omega arith in
       let d : o ≤ 14 = omega arith in
       let f : o ≤ 13 = omega arith in
-      e ∙ sym (simp (ne-eqb _ _ a, ne-eqb _ _ b, ne-eqb _ _ c, le-ltb 14 o d, le-leb 9 o h, le-leb o 13 f, end-row o h d, one) (both-in-turn _ _ (eqb (argument w) (s .stores)) (ltb (argument w) 65536)))
-
-  -- The match at height 1: no argument.
-  pub by-match : {r : Noted} → 14 ≤ operation w → operation w ≤ 14 → s .height ≡ 1 → r ≡ pick (eqb (argument w) 0) (Fits (tallied lent w s)) Unfit → r ≡ noted lent w s
-  unfolding noted word-fits argument-fits operands-fit is-store row-of rows pick
-  by-match h k one e = let q : operation w ≡ 14 = omega arith in e ∙ sym (rw (q, one) (once _ _ (eqb (argument w) 0)))
+      let m : o ≡ 14 → ⊥ = λ z. omega arith in
+      e ∙ sym (simp (ne-eqb _ _ m, ne-eqb _ _ a, ne-eqb _ _ b, ne-eqb _ _ c, le-ltb 14 o d, le-leb 9 o h, le-leb o 13 f, end-row o h d, one) (both-in-turn _ _ (eqb (argument w) (s .stores)) (ltb (argument w) 65536)))
 
   -- Operation 0.
   pub no-operation : operation w ≡ 0 → Unfit ≡ noted lent w s
   unfolding noted word-fits pick
   no-operation q = sym (rw q refl)
 
-  -- Operations past 14.
-  pub unknown-operation : 14 < operation w → Unfit ≡ noted lent w s
+  -- Operations past the stores: the match, and what is none of the fourteen.
+  pub past-the-stores : 13 < operation w → Unfit ≡ noted lent w s
   unfolding noted word-fits pick
-  unknown-operation h = let a : operation w ≡ 0 → ⊥ = λ z. omega arith in sym (rw (ne-eqb _ _ a, lt-ltb 14 (operation w) h) refl)
+  past-the-stores h =
+      let a : operation w ≡ 0 → ⊥ = λ z. omega arith in
+      pick-case (λ (b : Bool). Unfit ≡ pick b (Fits (tallied lent w s)) Unfit) (eqb (operation w) 14)
+      (λ _. refl)
+      (λ n. let m : operation w ≡ 14 → ⊥ = eqb-false _ _ n in sym (rw (ne-eqb _ _ a, lt-ltb 14 (operation w) (omega arith)) refl))
 
-  -- A store or the match at another height.
-  pub not-alone : 9 ≤ operation w → operation w ≤ 14 → (s .height ≡ 1 → ⊥) → Unfit ≡ noted lent w s
+  -- A store at another height.
+  pub not-alone : 9 ≤ operation w → operation w ≤ 13 → (s .height ≡ 1 → ⊥) → Unfit ≡ noted lent w s
   unfolding noted word-fits operands-fit
   not-alone h k n =
       let o = operation w in
       let a : o ≡ 0 → ⊥ = λ z. omega arith in
-      sym (simp (pick-false, pick-true, ne-eqb _ _ a, le-ltb 14 o k, le-leb 9 o h, ne-eqb _ _ n) (neither _ _ (argument-fits 65536 (s .stores) w) (ltb (s .height) (row-of o .takes))))
+      let m : o ≡ 14 → ⊥ = λ z. omega arith in
+      let d : o ≤ 14 = omega arith in
+      sym (simp (pick-false, pick-true, ne-eqb _ _ m, ne-eqb _ _ a, le-ltb 14 o d, le-leb 9 o h, ne-eqb _ _ n) (neither _ _ (argument-fits 65536 (s .stores) w) (ltb (s .height) (row-of o .takes))))
 
--- What each kind of operation finds on the stack, where it fits.
+-- What the rows of known operations take.
 
--- An atom takes nothing.
-pub atom-operand : (h w : ℕ) → operation w ≡ 1 → OperandFound h w
-unfolding row-of rows
-atom-operand h w q = record { known = omega arith; last = omega arith; found = rw q (omega arith) }
+-- A value takes nothing.
+pub value-takes : {v : Row} {o h : ℕ} → v ≡ row-of o → 1 ≤ o → o ≤ 4 → v .takes ≤ h
+value-takes {o = o} e p q = rw (e, value-row o p q) (omega arith)
 
--- A register takes nothing.
-pub register-operand : (h w : ℕ) → operation w ≡ 2 → OperandFound h w
-unfolding row-of rows
-register-operand h w q = record { known = omega arith; last = omega arith; found = rw q (omega arith) }
-
--- Operations 3 to 8 take what their row says.
-pub plain-operand : {h w : ℕ} {v : Row} → 3 ≤ operation w → operation w < 9 → v ≡ row-of (operation w) → v .takes ≤ h → OperandFound h w
-plain-operand p q e k = record { known = omega arith; last = omega arith; found = rw (← e) k }
-
--- A store or the match takes one.
-pub end-operand : {h w : ℕ} → 9 ≤ operation w → operation w ≤ 14 → h ≡ 1 → OperandFound h w
-end-operand {h} {w} p q e = record { known = omega arith; last = omega arith; found = rw (end-row (operation w) p q, e) (omega arith) }
-
--- So does a store, by its own bounds.
-pub store-operand : {h w : ℕ} → 9 ≤ operation w → operation w < 14 → h ≡ 1 → OperandFound h w
-store-operand p q e = end-operand p (omega arith) e
+-- A store takes one.
+pub store-takes : {v : Row} {h : ℕ} → v ≡ row-of 9 → h ≡ 1 → v .takes ≤ h
+store-takes e q = rw (e, end-row 9 (omega arith) (omega arith), q) (omega arith)
 
 -- The tally that the code makes of a word that fits.
-module _ (w : ℕ) (s : Tally) {t : Tally} (e : t ≡ raised-by w s) where
+module _ (w : ℕ) (s : Tally) {t : Tally} {v : Row} (e : t ≡ raised-by v s) where
   -- The atom is named.
-  pub atom-tallied : {m : ℕ} {b : Bool} (lent : List ℕ) → operation w ≡ 1 → m ≡ max (t .atoms) (argument w + 1)
+  pub atom-tallied : {m : ℕ} {b : Bool} (lent : List ℕ) → v ≡ row-of 1 → operation w ≡ 1 → m ≡ max (t .atoms) (argument w + 1)
       → b ≡ pick (ltb 1 (getD lent (argument w) 0)) false (t .bits)
       → Fits (record { stores = t .stores; height = t .height; deepest = t .deepest; atoms = m; named = t .named; bits = b }) ≡ Fits (tallied lent w s)
   unfolding tallied is-store pick
-  atom-tallied lent q u v = rw (u, v, e, q, add-zero, max-zero) refl
+  atom-tallied lent p q u z = rw (u, z, e, p, q, add-zero, max-zero) refl
 
   -- The register is named.
-  pub register-tallied : {m : ℕ} (lent : List ℕ) → operation w ≡ 2 → m ≡ max (t .named) (argument w + 1)
+  pub register-tallied : {m : ℕ} (lent : List ℕ) → v ≡ row-of 2 → operation w ≡ 2 → m ≡ max (t .named) (argument w + 1)
       → Fits (record { stores = t .stores; height = t .height; deepest = t .deepest; atoms = t .atoms; named = m; bits = t .bits }) ≡ Fits (tallied lent w s)
   unfolding tallied is-store pick
-  register-tallied lent q u = rw (u, e, q, add-zero, max-zero) refl
+  register-tallied lent p q u = rw (u, e, p, q, add-zero, max-zero) refl
 
   -- One store more.
-  pub store-tallied : (lent : List ℕ) → 9 ≤ operation w → operation w < 14
+  pub store-tallied : (lent : List ℕ) → v ≡ row-of 9 → 9 ≤ operation w → operation w < 14
       → Fits (record { stores = s .stores + 1; height = t .height; deepest = t .deepest; atoms = t .atoms; named = t .named; bits = t .bits }) ≡ Fits (tallied lent w s)
   unfolding tallied is-store pick
-  store-tallied lent h k =
+  store-tallied lent p h k =
       let o = operation w in
       let b : o ≡ 1 → ⊥ = λ z. omega arith in
       let c : o ≡ 2 → ⊥ = λ z. omega arith in
+      let d : o ≤ 14 = omega arith in
       let f : o ≤ 13 = omega arith in
-      rw e (sym (simp (ne-eqb _ _ b, ne-eqb _ _ c, le-leb 9 o h, le-leb o 13 f, max-zero) refl))
+      let r : v ≡ row-of o = p ∙ end-row 9 (omega arith) (omega arith) ∙ sym (end-row o h d) in
+      rw (e, r) (sym (simp (ne-eqb _ _ b, ne-eqb _ _ c, le-leb 9 o h, le-leb o 13 f, max-zero) refl))
 
   -- The height alone.
-  pub plain-tallied : (lent : List ℕ) → 3 ≤ operation w → operation w < 9 → Fits t ≡ Fits (tallied lent w s)
+  pub plain-tallied : (lent : List ℕ) → v ≡ row-of (operation w) → 3 ≤ operation w → operation w < 9 → Fits t ≡ Fits (tallied lent w s)
   unfolding tallied is-store pick
-  plain-tallied lent h k =
+  plain-tallied lent p h k =
       let o = operation w in
       let b : o ≡ 1 → ⊥ = λ z. omega arith in
       let c : o ≡ 2 → ⊥ = λ z. omega arith in
-      rw e (sym (simp (ne-eqb _ _ b, ne-eqb _ _ c, lt-leb 9 o k, max-zero, add-zero) refl))
-
-  -- The height alone, at the match too.
-  pub match-tallied : (lent : List ℕ) → 14 ≤ operation w → operation w ≤ 14 → Fits t ≡ Fits (tallied lent w s)
-  unfolding tallied is-store pick
-  match-tallied lent h k = let q : operation w ≡ 14 = omega arith in rw (e, q) (sym (simp (max-zero, add-zero) refl))
+      rw (e, p) (sym (simp (ne-eqb _ _ b, ne-eqb _ _ c, lt-leb 9 o k, max-zero, add-zero) refl))
 
 -- Where no atom is named, the atoms that are lent do not matter.
 pub any-atoms : {r : Noted} (lent : List ℕ) (w : ℕ) (s : Tally) → (operation w ≡ 1 → ⊥) → r ≡ noted [] w s → r ≡ noted lent w s

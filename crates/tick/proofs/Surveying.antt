@@ -7,23 +7,24 @@ use mathlib.Core.List.{List, [], _∷_}
 use Prim.Native.Nat.{ℕ, _+_, _<_, _≤_, max}
 use native.Mathlib.Nat.{add-assoc, add-zero, zero-add, max-zero, zero-max, max-le, le-max-left, le-max-right}
 use native.Mathlib.Omega.{arith}
+use native.Mathlib.Decide.{decLe}
 use lib.Dec.{eqb, ltb}
 use lib.ListN.{length, drop, drop-of-length-le}
-use borrow.Author.Tests.{eq-eqb, ne-eqb, lt-ltb, eqb-true}
+use borrow.Author.Tests.{eq-eqb, ne-eqb, lt-ltb, le-leb, eqb-true, eqb-false, leb-true}
 use Rattle.words.specs.Choice.{pick, pick-true, pick-false, pick-case}
 use Rattle.words.proofs.Laws.{drop-here}
-use Rattle.meaning.specs.Listing.{operation, argument, height, registers, deepest-from, deepest, atoms-named}
+use Rattle.meaning.specs.Listing.{operation, argument, rows, row-of, height, is-store, registers, deepest-from, deepest, atoms-named}
 use Rattle.meaning.specs.Check.{argument-fits, operands-fit, word-fits, after-match, check-from, check}
 use Rattle.meaning.specs.Tick.{named-bits}
 use Rattle.meaning.specs.declared.Checked.{Checked}
 use Rattle.meaning.specs.declared.Checked.the-variants.{Described, Faulty as FaultyAt}
 use Rattle.listing.proofs.Laws.{height-rises-by-one, store-counts-one, max-assoc, Fitting, register-below, described-fits, described-goes-on, described-ends}
-use Rattle.tick.specs.Survey.{tallied, noted, surveyed-if, surveyed, Undescribed}
+use Rattle.tick.specs.Survey.{tallied, noted, ended, surveyed-if, surveyed, Undescribed}
 use Rattle.tick.specs.declared.Tally.{Tally}
 use Rattle.tick.specs.declared.Noted.{Noted}
 use Rattle.tick.specs.declared.Noted.the-variants.{Fits, Unfit}
 use Rattle.tick.specs.declared.Surveyed.the-variants.{Whole, Faulty}
-use Rattle.words.proofs.Taken.{one-test, made-twice}
+use Rattle.words.proofs.Taken.{both-hold, second-holds, one-test, made-twice}
 use Rattle.tick.proofs.Place.{word-at, behind}
 
 -- The exact check finds the fault that is there.
@@ -112,8 +113,8 @@ surveying-begins ws lent = record {
   only = λ d. d;
 }
 
--- One more word, at the place i.
-module _ {ws lent : List ℕ} {s : Tally} {i : ℕ} {n : Noted} (g : Surveying ws lent s i) (h : i < length ws) (e : n ≡ noted lent (word-at ws i) s) where
+-- The word at the place i.
+module _ {ws lent : List ℕ} {s : Tally} {i : ℕ} (g : Surveying ws lent s i) (h : i < length ws) where
   -- What remains, with the word at i apart.
   here : check-from (registers ws) (drop i ws) i (s .stores) (s .height) ≡ check-from (registers ws) (word-at ws i ∷ behind ws i) i (s .stores) (s .height)
   here = rw (drop-here ws i h) refl
@@ -126,95 +127,132 @@ module _ {ws lent : List ℕ} {s : Tally} {i : ℕ} {n : Noted} (g : Surveying w
   fitting-here : check ws ≡ Described → Fitting (registers ws) (s .stores) (s .height) (word-at ws i)
   fitting-here d = described-fits _ _ _ _ _ _ (only-here d)
 
-  -- A word that does not fit under the bound is in no described listing.
+-- A word before the last.
+module _ {ws lent : List ℕ} {s : Tally} {i : ℕ} {n : Noted} (g : Surveying ws lent s i) (m : i + 1 < length ws) (e : n ≡ noted lent (word-at ws i) s) where
+  -- It is there.
+  inside-here : i < length ws
+  inside-here = omega arith
+
+  -- In a described listing it is not the match.
+  no-match-here : check ws ≡ Described → operation (word-at ws i) ≡ 14 → ⊥
+  no-match-here d o =
+      let z : behind ws i ≡ [] = described-ends _ _ _ _ _ _ (only-here g inside-here d) o in
+      let y : _≡_ {A = ℕ} 0 1 = cc (drop-here ws (i + 1) m) in
+      omega arith
+
+  -- There it fits under the bound too.
+  fits-before : check ws ≡ Described → pick (eqb (operation (word-at ws i)) 14) false (word-fits 65536 (s .stores) (s .height) (word-at ws i)) ≡ true
+  fits-before d =
+      let f = fitting-here g inside-here d in
+      pick-false _ _ (ne-eqb _ _ (no-match-here d)) ∙ same-fits _ _ _ _ (named-below _ _ _ _ f) ∙ f .fits
+
+  -- So a word that was not noted is in no described listing.
   pub unfit-here : n ≡ Unfit → Undescribed ws
   unfolding noted
   unfit-here q = record {
     never = λ d.
-        let f = fitting-here d in
-        let t : false ≡ true = sym (unfit-noted (tallied lent (word-at ws i) s) _ (sym e ∙ q)) ∙ same-fits _ _ _ _ (named-below _ _ _ _ f) ∙ f .fits in
+        let t : false ≡ true = sym (unfit-noted (tallied lent (word-at ws i) s) _ (sym e ∙ q)) ∙ fits-before d in
         let z : _≡_ {A = ℕ} 0 1 = cc in
         omega arith;
   }
 
-  module _ {t : Tally} (q : n ≡ Fits t) where
-    -- The word fits under the bound.
-    fits-bound : word-fits 65536 (s .stores) (s .height) (word-at ws i) ≡ true
-    unfolding noted
-    fits-bound = fits-noted _ (sym e ∙ q) .0
+  -- Behind one that was noted the pass goes on.
+  pub surveying-on : {t : Tally} → n ≡ Fits t → Surveying ws lent t (i + 1)
+  unfolding noted tallied register-named check-from registers deepest-from atoms-named named-bits
+  surveying-on q =
+      let w = word-at ws i in
+      let split = drop-here ws i inside-here in
+      let f = fits-noted (pick (eqb (operation w) 14) false (word-fits 65536 (s .stores) (s .height) w)) (sym e ∙ q) in
+      let b = second-holds (eqb (operation w) 14) (f .0) in
+      rw (f .1) record {
+        inside = omega arith;
+        tally = record {
+          few = omega (arith, g .tally .few, store-counts-one w);
+          low = omega (arith, g .tally .low, height-rises-by-one (s .height) w);
+          stores = g .tally .stores ∙ rw split (sym (add-assoc (s .stores) _ _));
+          deep = g .tally .deep ∙ rw split (sym (max-assoc (s .deepest) _ _));
+          atoms = g .tally .atoms ∙ rw split (sym (max-assoc (s .atoms) _ _));
+          bits = g .tally .bits ∙ rw split (bits-on _ _ (s .bits) _);
+          named = λ d. max-le (g .tally .named d) (named-below _ _ _ _ (fitting-here g inside-here d));
+        };
+        enough = λ l.
+            g .enough (omega (arith, le-max-left (s .named) (register-named w)))
+            ∙ here g inside-here
+            ∙ pick-true _ _ (sym (same-fits _ _ _ _ (omega (arith, le-max-right (s .named) (register-named w)))) ∙ b .1)
+            ∙ pick-false _ _ (b .0);
+        only = λ d. described-goes-on _ _ _ _ _ _ (only-here g inside-here d) (eqb-false _ _ (b .0));
+      }
 
-    -- The tally has the word.
-    tally-here : t ≡ tallied lent (word-at ws i) s
-    unfolding noted
-    tally-here = fits-noted (word-fits 65536 (s .stores) (s .height) (word-at ws i)) (sym e ∙ q) .1
+-- The last word.
+module _ {ws lent : List ℕ} {s : Tally} {i : ℕ} (g : Surveying ws lent s i) (h : i < length ws) (m : length ws ≤ i + 1) where
+  -- It is all that remains.
+  alone : drop i ws ≡ word-at ws i ∷ []
+  alone = drop-here ws i h ∙ rw (drop-of-length-le ws m) refl
 
-    -- The tally counts the word, a match too.
-    tallying-on : Tallying ws lent t (i + 1)
-    unfolding tallied registers deepest-from atoms-named named-bits register-named
-    tallying-on = rw tally-here record {
-      few = omega (arith, g .tally .few, store-counts-one (word-at ws i));
-      low = omega (arith, g .tally .low, height-rises-by-one (s .height) (word-at ws i));
-      stores = g .tally .stores ∙ rw (drop-here ws i h) (sym (add-assoc (s .stores) _ _));
-      deep = g .tally .deep ∙ rw (drop-here ws i h) (sym (max-assoc (s .deepest) _ _));
-      atoms = g .tally .atoms ∙ rw (drop-here ws i h) (sym (max-assoc (s .atoms) _ _));
-      bits = g .tally .bits ∙ rw (drop-here ws i h) (bits-on _ _ (s .bits) _);
-      named = λ d. max-le (g .tally .named d) (named-below _ _ _ _ (fitting-here d));
-    }
+  -- A described listing ends with the match.
+  match-here : check ws ≡ Described → operation (word-at ws i) ≡ 14
+  unfolding check-from
+  match-here d = elim (decLe 14 (operation (word-at ws i))) [
+    | yes o ↦ omega (arith, fitting-here g h d .operand .last)
+    | no o ↦ absurd
+        (let q = rw (drop-of-length-le ws m) at (described-goes-on _ _ _ _ _ _ (only-here g h d) (λ z. omega arith)) in
+        let z : _≡_ {A = ℕ} 0 1 = cc in
+        omega arith)
+  ]
 
-    -- A word that fits and is not the match.
-    pub surveying-on : (operation (word-at ws i) ≡ 14 → ⊥) → Surveying ws lent t (i + 1)
-    unfolding tallied register-named check-from
-    surveying-on o = record {
-      inside = omega arith;
-      tally = tallying-on;
-      enough = rw tally-here λ m.
-          g .enough (omega (arith, le-max-left (s .named) (register-named (word-at ws i))))
-          ∙ here
-          ∙ pick-true _ _ (sym (same-fits _ _ _ _ (omega (arith, le-max-right (s .named) (register-named (word-at ws i))))) ∙ fits-bound)
-          ∙ pick-false _ _ (ne-eqb _ _ o);
-      only = rw tally-here λ d. described-goes-on _ _ _ _ _ _ (only-here d) o;
-    }
+  -- At the match all stores are counted.
+  all-stores : operation (word-at ws i) ≡ 14 → registers ws ≡ s .stores
+  unfolding registers is-store pick
+  all-stores o = g .tally .stores ∙ rw (alone, o) (add-zero _)
 
-    -- A word follows the match.
-    pub word-after : operation (word-at ws i) ≡ 14 → i + 1 < length ws → Undescribed ws
-    word-after o m = record {
-      never = λ d.
-          let z : behind ws i ≡ [] = described-ends _ _ _ _ _ _ (only-here d) o in
-          let y : _≡_ {A = ℕ} 0 1 = cc (drop-here ws (i + 1) m) in
-          omega arith;
-    }
+  -- A described listing passes the tests of the last word.
+  ended-here : check ws ≡ Described → ended (word-at ws i) s ≡ true
+  unfolding ended argument-fits is-store pick
+  ended-here d =
+      let f = fitting-here g h d in
+      let o = match-here d in
+      let a : eqb (argument (word-at ws i)) 0 ≡ true = rw o at (f .suits) in
+      let one : s .height ≡ 1 = f .alone (omega arith) in
+      let k : s .named ≤ s .stores = omega (arith, g .tally .named d, all-stores o) in
+      pick-true _ _ (eq-eqb _ _ o) ∙ pick-true _ _ a ∙ pick-true _ _ (eq-eqb _ _ one) ∙ le-leb _ _ k
 
-    -- At the end all stores are counted.
-    all-stores : length ws ≤ i + 1 → registers ws ≡ t .stores
-    unfolding registers
-    all-stores m = tallying-on .stores ∙ rw (drop-of-length-le ws m) (add-zero _)
+  -- One that does not is not described.
+  pub unended : {b : Bool} → b ≡ ended (word-at ws i) s → b ≡ false → Undescribed ws
+  unended e q = record {
+    never = λ d. let t : false ≡ true = sym q ∙ e ∙ ended-here d in let z : _≡_ {A = ℕ} 0 1 = cc in omega arith;
+  }
 
-    -- A register is named that has no store.
-    pub unstored : operation (word-at ws i) ≡ 14 → length ws ≤ i + 1 → t .stores < t .named → Undescribed ws
-    unstored o m k = record { never = λ d. omega (arith, tallying-on .named d, all-stores m) }
+  -- The match with no argument at height 1, behind a store for each register named.
+  module _ (o : operation (word-at ws i) ≡ 14) (a : argument (word-at ws i) ≡ 0) (one : s .height ≡ 1) (k : s .named ≤ s .stores) where
+    -- It fits.
+    match-fits : word-fits (registers ws) (s .stores) (s .height) (word-at ws i) ≡ true
+    unfolding word-fits argument-fits operands-fit is-store row-of rows pick
+    match-fits = rw (o, a, one) refl
 
-    -- The match is the last word, and each register named has its store.
-    described-here : operation (word-at ws i) ≡ 14 → length ws ≤ i + 1 → t .named ≤ t .stores → check ws ≡ Described
-    unfolding tallied register-named check-from after-match
-    described-here o m k =
-        let l : t .named ≤ registers ws = omega (arith, all-stores m) in
-        let r : max (s .named) (register-named (word-at ws i)) ≤ registers ws = rw tally-here at l in
-        g .enough (omega (arith, le-max-left (s .named) (register-named (word-at ws i))))
-        ∙ here
-        ∙ pick-true _ _ (sym (same-fits _ _ _ _ (omega (arith, le-max-right (s .named) (register-named (word-at ws i))))) ∙ fits-bound)
-        ∙ pick-true _ _ (eq-eqb _ _ o)
-        ∙ rw (drop-of-length-le ws m) refl
+    -- The listing is described.
+    described-here : check ws ≡ Described
+    unfolding check-from after-match
+    described-here =
+        g .enough (omega (arith, all-stores o)) ∙ here g h ∙ pick-true _ _ match-fits ∙ pick-true _ _ (eq-eqb _ _ o) ∙ rw (drop-of-length-le ws m) refl
 
-    -- So the pass lets the listing through, with what it counted.
-    pub whole-there : operation (word-at ws i) ≡ 14 → length ws ≤ i + 1 → t .named ≤ t .stores
-        → Whole (record { registers = t .stores; atoms = t .atoms; deepest = t .deepest; bits = t .bits }) ≡ surveyed ws lent
-    unfolding surveyed surveyed-if deepest-from atoms-named named-bits pick
-    whole-there o m k =
-        let w = tallying-on in
-        let a : t .atoms ≡ atoms-named ws = sym (w .atoms ∙ rw (drop-of-length-le ws m) (max-zero _)) in
-        let d : t .deepest ≡ deepest ws = sym (w .deep ∙ rw (drop-of-length-le ws m) (max-zero _)) in
-        let b : t .bits ≡ named-bits lent ws = sym (w .bits ∙ rw (drop-of-length-le ws m) (one-test (t .bits))) in
-        rw (described-here o m k, ← all-stores m, a, d, b) refl
+    -- The pass lets it through, with what it counted.
+    whole-here : Whole (record { registers = s .stores; atoms = s .atoms; deepest = s .deepest; bits = s .bits }) ≡ surveyed ws lent
+    unfolding surveyed surveyed-if deepest-from atoms-named named-bits row-of rows pick
+    whole-here =
+        let n : s .atoms ≡ atoms-named ws = sym (g .tally .atoms ∙ rw (alone, o) (max-zero _)) in
+        let d : s .deepest ≡ deepest ws = sym (g .tally .deep ∙ rw (alone, o, one) (max-zero _)) in
+        let b : s .bits ≡ named-bits lent ws = sym (g .tally .bits ∙ rw (alone, o) (one-test (s .bits))) in
+        rw (described-here, ← all-stores o, n, d, b) refl
+
+  -- So where the tests pass the pass's answer is that.
+  pub whole-there : {b : Bool} → b ≡ ended (word-at ws i) s → b ≡ true
+      → Whole (record { registers = s .stores; atoms = s .atoms; deepest = s .deepest; bits = s .bits }) ≡ surveyed ws lent
+  unfolding ended
+  whole-there e q =
+      let p = both-hold (eqb (operation (word-at ws i)) 14) (sym e ∙ q) in
+      let a = both-hold (eqb (argument (word-at ws i)) 0) (p .1) in
+      let c = both-hold (eqb (s .height) 1) (a .1) in
+      whole-here (eqb-true _ _ (p .0)) (eqb-true _ _ (a .0)) (eqb-true _ _ (c .0)) (leb-true _ _ (c .1))
 
 -- The words end before a match.
 pub ends-early : {ws lent : List ℕ} {s : Tally} {i : ℕ} → Surveying ws lent s i → length ws ≤ i → Undescribed ws

@@ -5,13 +5,14 @@
 use mathlib.Core.Path.{_≡_}
 use mathlib.Core.Bool.{Bool, true, false}
 use mathlib.Core.List.{List}
-use Prim.Native.Nat.{ℕ, _+_, max}
-use lib.Dec.{eqb, ltb}
+use Prim.Native.Nat.{ℕ, _+_, _-_, max}
+use lib.Dec.{eqb, leb, ltb}
 use lib.ListN.{getD}
 use Rattle.words.specs.Choice.{pick}
 use Rattle.meaning.specs.Listing.{operation, argument, height, is-store, registers, deepest, atoms-named}
 use Rattle.meaning.specs.Check.{word-fits, check}
 use Rattle.meaning.specs.Tick.{named-bits}
+use Rattle.meaning.specs.declared.Row.{Row}
 use Rattle.meaning.specs.declared.Checked.{Checked}
 use Rattle.meaning.specs.declared.Checked.the-variants.{Described, Faulty as FaultyAt}
 use Rattle.tick.specs.declared.Tally.{Tally}
@@ -21,13 +22,13 @@ use Rattle.tick.specs.declared.Wanted.{Wanted}
 use Rattle.tick.specs.declared.Surveyed.{Surveyed}
 use Rattle.tick.specs.declared.Surveyed.the-variants.{Whole, Faulty}
 
--- The tally with the stack's height after the word.
-abbrev pub raised-by : ℕ → Tally → Tally
-raised-by w s =
+-- The tally with the stack's height after a word of this row.
+abbrev pub raised-by : Row → Tally → Tally
+raised-by v s =
     record {
       stores = s .stores;
-      height = height (s .height) w;
-      deepest = max (s .deepest) (height (s .height) w);
+      height = s .height - v .takes + v .leaves;
+      deepest = max (s .deepest) (s .height - v .takes + v .leaves);
       atoms = s .atoms;
       named = s .named;
       bits = s .bits;
@@ -45,9 +46,14 @@ tallied lent w s =
       bits = pick (eqb (operation w) 1) (pick (ltb 1 (getD lent (argument w) 0)) false (s .bits)) (s .bits);
     }
 
--- One word of the pass: `word-fits` with the bound of register numbers in place of the slice's own count.
+-- A word before the last: not the match, and `word-fits` with the bound of register numbers in place of the slice's own count.
 unfoldable pub noted : List ℕ → ℕ → Tally → Noted
-noted lent w s = pick (word-fits 65536 (s .stores) (s .height) w) (Fits (tallied lent w s)) Unfit
+noted lent w s = pick (pick (eqb (operation w) 14) false (word-fits 65536 (s .stores) (s .height) w)) (Fits (tallied lent w s)) Unfit
+
+-- The last word: the match with no argument, one value on the stack, and a store for each register named.
+unfoldable pub ended : ℕ → Tally → Bool
+ended w s =
+    pick (eqb (operation w) 14) (pick (eqb (argument w) 0) (pick (eqb (s .height) 1) (leb (s .named) (s .stores)) false) false) false
 
 -- What a listing wants of the slices that are lent to its tick.
 abbrev pub wanted : List ℕ → List ℕ → Wanted

@@ -16,8 +16,7 @@ ghost use Rattle.meaning.specs.Listing.{operation};
 ghost use Rattle.meaning.specs.Check.{check};
 ghost use Rattle.meaning.specs.Tick.{«all-bits»};
 ghost use Rattle.meaning.specs.declared.Checked.«the-variants».{Described, Faulty as FaultyAt};
-ghost use Rattle.listing.specs.Operands.{OperandFound};
-ghost use Rattle.tick.specs.Survey.{«raised-by», noted as «noted-of», wanted as «wanted-of», lacking, surveyed, Undescribed};
+ghost use Rattle.tick.specs.Survey.{«raised-by», noted as «noted-of», wanted as «wanted-of», ended, lacking, surveyed, Undescribed};
 ghost use Rattle.tick.specs.Stack.{Lent, «value-of», Applicable, Applied, Ready, Evaluated};
 ghost use Rattle.tick.specs.Stepped.{Stepped};
 
@@ -52,12 +51,13 @@ enum Surveyed {
     Faulty(usize),
 }
 
-// The tally with the stack's height after the word.
-fn raised(s: Tally, w: u32) -> Tally
-    requires { ⌜ (OperandFound (s .height) w) × (s .height < 2 ^ 63) ⌝ }
-    ensures { λ r. ⌜ r ≡ raised-by w s ⌝ }
+// The tally with the stack's height after a word of this row. The compiled code lays the table out anew at each look-up, so
+// a caller that knows the operation asks for a constant's row, which costs nothing at run time.
+fn raised(s: Tally, row: meaning::Row) -> Tally
+    requires { ⌜ (row .takes ≤ s .height) × (s .height < 2 ^ 63) ⌝ }
+    ensures { λ r. ⌜ r ≡ raised-by row s ⌝ }
 {
-    let height = listing::height_with(s.height, w);
+    let height = s.height - row.takes as usize + row.leaves as usize;
     Tally {
         stores: s.stores,
         height,
@@ -89,7 +89,7 @@ fn note_atom(s: Tally, w: u32, atoms: &[u8]) -> Noted
     if 65536 <= a {
         return Noted::Unfit;
     }
-    let t = raised(s, w);
+    let t = raised(s, listing::row(1));
     Noted::Fits(Tally {
         stores: t.stores,
         height: t.height,
@@ -109,7 +109,7 @@ fn note_register(s: Tally, w: u32) -> Noted
     if 65536 <= a {
         return Noted::Unfit;
     }
-    let t = raised(s, w);
+    let t = raised(s, listing::row(2));
     Noted::Fits(Tally {
         stores: t.stores,
         height: t.height,
@@ -132,7 +132,7 @@ fn note_plain(s: Tally, w: u32) -> Noted
     if s.height < row.takes as usize {
         return Noted::Unfit;
     }
-    Noted::Fits(raised(s, w))
+    Noted::Fits(raised(s, row))
 }
 
 // Operations 9 to 13 at height 1.
@@ -147,7 +147,7 @@ fn note_store(s: Tally, w: u32) -> Noted
     if 65536 <= a {
         return Noted::Unfit;
     }
-    let t = raised(s, w);
+    let t = raised(s, listing::row(9));
     Noted::Fits(Tally {
         stores: s.stores + 1,
         height: t.height,
@@ -158,28 +158,22 @@ fn note_store(s: Tally, w: u32) -> Noted
     })
 }
 
-// Operations from 9 on: a store or the match, at height 1.
+// Operations from 9 on: a store, at height 1. The match fits only as the last word, which is not noted.
 fn note_end(s: Tally, w: u32) -> Noted
     requires { ⌜ (9 ≤ operation w) × (s .stores < 2 ^ 63) ⌝ }
     ensures { λ r. ⌜ r ≡ noted-of [] w s ⌝ }
 {
     let o = w / 16777216;
-    if 14 < o {
+    if 13 < o {
         return Noted::Unfit;
     }
     if s.height != 1 {
         return Noted::Unfit;
     }
-    if o < 14 {
-        return note_store(s, w);
-    }
-    if w % 16777216 != 0 {
-        return Noted::Unfit;
-    }
-    Noted::Fits(raised(s, w))
+    note_store(s, w)
 }
 
-// One word of the pass.
+// One word of the pass that is not the last.
 fn note(s: Tally, w: u32, atoms: &[u8]) -> Noted
     requires { ⌜ (s .stores < 2 ^ 63) × (s .height < 2 ^ 63) ⌝ }
     ensures { λ r. ⌜ r ≡ noted-of (now (atoms .entry)) w s ⌝ }
@@ -213,7 +207,24 @@ fn fault(listing: &[u32]) -> usize
     }
 }
 
-// The pass: each word once. A register may be named before its store is seen, so the highest is compared at the end.
+// The last word: the match at height 1, behind a store for each register named.
+fn ends(s: Tally, w: u32) -> bool
+    ensures { λ r. ⌜ r ≡ ended w s ⌝ }
+{
+    if w / 16777216 != 14 {
+        return false;
+    }
+    if w % 16777216 != 0 {
+        return false;
+    }
+    if s.height != 1 {
+        return false;
+    }
+    s.named <= s.stores
+}
+
+// The pass: each word once, and the last apart, so that only that one is compared with the match. A register may be named
+// before its store is seen, so the highest is compared at the end.
 fn survey(listing: &[u32], atoms: &[u8]) -> Surveyed
     ensures { λ r. ⌜ r ≡ surveyed (now (listing .entry)) (now (atoms .entry)) ⌝ }
 {
@@ -226,28 +237,23 @@ fn survey(listing: &[u32], atoms: &[u8]) -> Surveyed
         bits: true,
     };
     let mut i = 0;
-    while i < listing.len() {
-        let w = listing[i];
-        let next = i + 1;
-        let Noted::Fits(t) = note(s, w, atoms) else {
+    while i + 1 < listing.len() {
+        let Noted::Fits(t) = note(s, listing[i], atoms) else {
             return Surveyed::Faulty(fault(listing));
         };
-        if w / 16777216 == 14 {
-            if next < listing.len() {
-                return Surveyed::Faulty(fault(listing));
-            }
-            if t.stores < t.named {
-                return Surveyed::Faulty(fault(listing));
-            }
-            return Surveyed::Whole(Wanted {
-                registers: t.stores,
-                atoms: t.atoms,
-                deepest: t.deepest,
-                bits: t.bits,
-            });
-        }
         s = t;
-        i = next;
+        i += 1;
+    }
+    if listing.len() <= i {
+        return Surveyed::Faulty(fault(listing));
+    }
+    if ends(s, listing[i]) {
+        return Surveyed::Whole(Wanted {
+            registers: s.stores,
+            atoms: s.atoms,
+            deepest: s.deepest,
+            bits: s.bits,
+        });
     }
     Surveyed::Faulty(fault(listing))
 }

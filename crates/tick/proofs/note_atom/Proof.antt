@@ -1,6 +1,6 @@
 -- Operation 1: the argument's bound decides, and the tally has the atom.
 use Rattle.words.specs.Choice.{tests}
-use Rattle.tick.proofs.NotedWord.{by-atom, atom-operand, atom-tallied}
+use Rattle.tick.proofs.NotedWord.{by-atom, value-takes, atom-tallied}
 use borrow.Author.Needs.{needs}
 use Rattle.tick.proofs.note_atom.Statement.{statement}
 use Rattle.tick.proofs.note_atom.Tie as tie
@@ -11,8 +11,11 @@ cast-a c = search needs
 returns : tie.Need-returns
 returns c = search (by-atom, tests)
 
+row-requires : tie.Need-row-requires
+row-requires c κs = search needs
+
 raised-requires : tie.Need-raised-requires
-raised-requires c κs = (search atom-operand, search needs)
+raised-requires c κs = (search (value-takes, needs), search needs)
 
 add-larger : tie.Need-add-larger
 add-larger c = search needs
@@ -32,6 +35,7 @@ note-atom-spec =
     (tie.spec
     cast-a
     returns
+    row-requires
     raised-requires
     add-larger
     larger-requires

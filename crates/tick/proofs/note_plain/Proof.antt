@@ -1,6 +1,6 @@
 -- Operations 3 to 8: no argument, and what is taken is there.
 use Rattle.words.specs.Choice.{tests}
-use Rattle.tick.proofs.NotedWord.{filled-argument, by-plain, plain-operand, plain-tallied}
+use Rattle.tick.proofs.NotedWord.{filled-argument, by-plain, plain-tallied}
 use borrow.Author.Needs.{needs}
 use Rattle.tick.proofs.note_plain.Statement.{statement}
 use Rattle.tick.proofs.note_plain.Tie as tie
@@ -18,7 +18,7 @@ returns-2 : tie.Need-returns-2
 returns-2 c = search (by-plain, tests) depth 9
 
 raised-requires : tie.Need-raised-requires
-raised-requires c κs = (search plain-operand, search needs)
+raised-requires c κs = search needs
 
 returns-3 : tie.Need-returns-3
 returns-3 c = search (by-plain, plain-tallied, tests) depth 9

@@ -2,7 +2,7 @@
 use borrow.Author.Needs.{needs}
 use Prim.Native.Nat.{_-_}
 use lib.ListN.{length}
-use Rattle.tick.proofs.Surveying.{Surveying, surveying-begins, unfit-here, surveying-on, word-after, unstored, whole-there, ends-early, faulty-there}
+use Rattle.tick.proofs.Surveying.{Surveying, surveying-begins, unfit-here, surveying-on, unended, whole-there, ends-early, faulty-there}
 use Rattle.tick.proofs.survey.Statement.{statement}
 use Rattle.tick.proofs.survey.Tie as tie
 
@@ -15,14 +15,14 @@ abbrev μ-loop : tie.MeasureT-loop
 loop-holds : tie.Need-loop-holds Inv-loop μ-loop
 loop-holds c = search surveying-begins
 
-mul-w : tie.Need-mul-w Inv-loop μ-loop
-mul-w c = search needs
+add-loop : tie.Need-add-loop Inv-loop μ-loop
+add-loop c = search needs
 
-shared-slice-read-w : tie.Need-shared-slice-read-w Inv-loop μ-loop
-shared-slice-read-w c = search needs
+mul-note : tie.Need-mul-note Inv-loop μ-loop
+mul-note c = search needs
 
-add-next : tie.Need-add-next Inv-loop μ-loop
-add-next c = search needs
+shared-slice-read-note : tie.Need-shared-slice-read-note Inv-loop μ-loop
+shared-slice-read-note c = search needs
 
 note-requires : tie.Need-note-requires Inv-loop μ-loop
 note-requires c κs = search needs
@@ -39,20 +39,8 @@ fault-requires c κs = search unfit-here
 returns : tie.Need-returns Inv-loop μ-loop
 returns c = search faulty-there
 
-fault-requires-2 : tie.Need-fault-requires-2 Inv-loop μ-loop
-fault-requires-2 c κs = search word-after
-
-returns-2 : tie.Need-returns-2 Inv-loop μ-loop
-returns-2 c = search faulty-there
-
-fault-requires-3 : tie.Need-fault-requires-3 Inv-loop μ-loop
-fault-requires-3 c κs = search unstored
-
-returns-3 : tie.Need-returns-3 Inv-loop μ-loop
-returns-3 c = search faulty-there
-
-returns-4 : tie.Need-returns-4 Inv-loop μ-loop
-returns-4 c = search whole-there
+add-i : tie.Need-add-i Inv-loop μ-loop
+add-i c = search needs
 
 loop-less : tie.Need-loop-less Inv-loop μ-loop
 loop-less c = search needs
@@ -60,11 +48,29 @@ loop-less c = search needs
 loop-again : tie.Need-loop-again Inv-loop μ-loop
 loop-again c = search surveying-on
 
-fault-requires-4 : tie.Need-fault-requires-4 Inv-loop μ-loop
-fault-requires-4 c κs = search ends-early
+fault-requires-2 : tie.Need-fault-requires-2 Inv-loop μ-loop
+fault-requires-2 c κs = search ends-early
 
-returns-5 : tie.Need-returns-5 Inv-loop μ-loop
-returns-5 c = search faulty-there
+returns-2 : tie.Need-returns-2 Inv-loop μ-loop
+returns-2 c = search faulty-there
+
+mul-ends : tie.Need-mul-ends Inv-loop μ-loop
+mul-ends c = search needs
+
+shared-slice-read-ends : tie.Need-shared-slice-read-ends Inv-loop μ-loop
+shared-slice-read-ends c = search needs
+
+ends-requires : tie.Need-ends-requires Inv-loop μ-loop
+ends-requires c κs = search needs
+
+returns-3 : tie.Need-returns-3 Inv-loop μ-loop
+returns-3 c = search whole-there
+
+fault-requires-3 : tie.Need-fault-requires-3 Inv-loop μ-loop
+fault-requires-3 c κs = search unended
+
+returns-4 : tie.Need-returns-4 Inv-loop μ-loop
+returns-4 c = search faulty-there
 
 pub survey-spec : {M : Type 1} → statement M
 survey-spec =
@@ -73,20 +79,22 @@ survey-spec =
     Inv-loop
     μ-loop
     loop-holds
-    mul-w
-    shared-slice-read-w
-    add-next
+    add-loop
+    mul-note
+    shared-slice-read-note
     note-requires
     enum-known-t
     enum-told
     fault-requires
     returns
-    fault-requires-2
-    returns-2
-    fault-requires-3
-    returns-3
-    returns-4
+    add-i
     loop-less
     loop-again
-    fault-requires-4
-    returns-5)
+    fault-requires-2
+    returns-2
+    mul-ends
+    shared-slice-read-ends
+    ends-requires
+    returns-3
+    fault-requires-3
+    returns-4)

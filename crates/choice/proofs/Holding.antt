@@ -42,7 +42,7 @@ unfolding registers-in
 counted-registers ts y S some =
     ap length (the-root-stores-as-the-pipeline (y .guard) (y .steps) 0) ∙ pipeline-registers ts (y .guard) (y .steps) S some
 
-module _ {t : List ℕ} {n i : ℕ} {work work₁ : List ℕ} {k : Kept} (C : Chosen t n i (length work)) (H : Holds (chosen t n i) work work₁ k) where
+module _ {t outline : List ℕ} {n i : ℕ} {work work₁ : List ℕ} {k : Kept} (C : Chosen t outline n i (length work)) (H : Holds (chosen t n i) work work₁ k) where
   abbrev y : SeqAlt
   y = chosen t n i
 

@@ -24,7 +24,7 @@ pub room-in-work : (work : ℕ) → room-of work * 16 ≤ work
 unfolding room-of
 room-in-work work = pick-case (λ (r : ℕ). r * 16 ≤ work) (ltb 65536 (work / 16)) (λ e. omega (arith, ltb-true 65536 (work / 16) e)) (λ e. omega arith)
 
-module _ {t : List ℕ} {n i work : ℕ} (C : Chosen t n i work) where
+module _ {t outline : List ℕ} {n i work : ℕ} (C : Chosen t outline n i work) where
   unfoldable pub numbered : Numbered t n i
   numbered = record {
     node = record { formed = C .formed; inside = C .inside; room = room-of work; walkable = C .walkable };
@@ -40,7 +40,7 @@ module _ {t : List ℕ} {n i work : ℕ} (C : Chosen t n i work) where
   guard-in-the-second-half = omega (arith, guard-within-room t n i numbered, room-in-work work)
 
 -- `keep`: the steps, then the guard.
-module _ {t : List ℕ} {n i : ℕ} (work : List ℕ) (C : Chosen t n i (length work)) where
+module _ {t outline : List ℕ} {n i : ℕ} (work : List ℕ) (C : Chosen t outline n i (length work)) where
   pub room-for-steps : 0 + length (alternative-words (Fixed 0) (alternatives-of t n) i) ≤ length work
   room-for-steps = omega (arith, steps-in-the-first-half C)
 

@@ -29,14 +29,14 @@ use Rattle.choice.specs.declared.Survey.the-variants.{Misplaced, Registe
 none-left : (alts : List SeqAlt) {i : ℕ} → length alts ≤ i → drop i alts ≡ []
 none-left alts h = drop-of-length-le alts h
 
-module _ {t : List ℕ} {n count work : ℕ} (R : Root t n count work) where
+module _ {t outline : List ℕ} {n count work : ℕ} (R : Root t outline n count work) where
   -- Refusal 10 came first.
   pub few-alternatives : count ≤ 256
   unfolding alternatives-of
   few-alternatives = omega (arith, R .counted, a-walkable-tree-is-bounded _ (tree-at t n) (R .walkable) .few)
 
-  pub chosen-below : {i now : ℕ} → now ≡ work → i < count → Chosen t n i now
-  chosen-below same h = record { formed = R .formed; inside = R .inside; walkable = rw same (R .walkable); index = omega (arith, R .counted) }
+  pub chosen-below : {i now : ℕ} → now ≡ work → i < count → Chosen t outline n i now
+  chosen-below same h = record { formed = R .formed; inside = R .inside; walkable = rw same (R .walkable); known = R .known; index = omega (arith, R .counted) }
 
 -- The first pass.
 pub record Surveying (t : List ℕ) (n : ℕ) (work₀ work : List ℕ) (total i : ℕ) : Type 0 where
@@ -51,7 +51,7 @@ pub surveying-begins : (t : List ℕ) (n : ℕ) (work : List ℕ) → Surveying 
 unfolding survey-of
 surveying-begins t n work = record { turn = omega arith; few = omega arith; low = omega arith; long = refl; rest = refl; left = refl }
 
-module _ {t : List ℕ} {n count : ℕ} {work₀ work : List ℕ} {total i : ℕ} {l : Look} (R : Root t n count (length work₀))
+module _ {t outline : List ℕ} {n count : ℕ} {work₀ work : List ℕ} {total i : ℕ} {l : Look} (R : Root t outline n count (length work₀))
     (S : Surveying t n work₀ work total i) (h : i < count) (e : l ≡ look-at (chosen t n i)) where
   abbrev here : i < length (alternatives-of t n)
   here = omega (arith, R .counted)
@@ -86,7 +86,7 @@ module _ {t : List ℕ} {n count : ℕ} {work₀ work : List ℕ} {total i : ℕ
         left = S .left ∙ rw (rest-of (alternatives-of t n) i here, k) (pick-true _ _ fits);
       }
 
-module _ {t : List ℕ} {n count : ℕ} {work₀ work : List ℕ} {total i : ℕ} (R : Root t n count (length work₀))
+module _ {t outline : List ℕ} {n count : ℕ} {work₀ work : List ℕ} {total i : ℕ} (R : Root t outline n count (length work₀))
     (S : Surveying t n work₀ work total i) (h : count ≤ i) where
   pub survey-ends : Registers total ≡ survey-of (alternatives-of t n)
   unfolding survey-from
@@ -151,7 +151,8 @@ pub record Passing (t : List ℕ) (n first : ℕ) (work₀ work : List ℕ) (x i
 passing-begins : (t : List ℕ) (n first : ℕ) (work : List ℕ) → Passing t n first work work first 0
 passing-begins t n first work = record { turn = omega arith; few = omega arith; long = refl; registers = refl; left = refl }
 
-module _ {t : List ℕ} {n count first : ℕ} {work₀ work : List ℕ} {x i : ℕ} (R : Root t n count (length work₀)) (P : Passing t n first work₀ work x i) where
+module _ {t outline : List ℕ} {n count first : ℕ} {work₀ work : List ℕ} {x i : ℕ}
+    (R : Root t outline n count (length work₀)) (P : Passing t n first work₀ work x i) where
   pub registers-fit : i < count → first + all-registers (alternatives-of t n) ≤ 65536 → x + registers-in (chosen t n i) ≤ 65536
   unfolding all-registers
   registers-fit h fits =
@@ -181,9 +182,9 @@ pub record Sizing (t : List ℕ) (n count first : ℕ) (work₀ work : List ℕ)
   pub low : total ≤ i * 18014398509481986 + 1
   pub sum : total + (length (all-stores (drop i (alternatives-of t n)) x) + length (all-texts count i (drop i (alternatives-of t n)) x)) ≡ length (choice-words (alternatives-of t n) first)
 
-pub sizing-begins : {t : List ℕ} {n count : ℕ} (first : ℕ) (work : List ℕ) → Root t n count (length work) → Sizing t n count first work work 1 first 0
+pub sizing-begins : {t outline : List ℕ} {n count : ℕ} (first : ℕ) (work : List ℕ) → Root t outline n count (length work) → Sizing t n count first work work 1 first 0
 unfolding choice-words
-sizing-begins {t} {n} {count} first work R =
+sizing-begins {t} {n = n} {count} first work R =
     let alts = alternatives-of t n in
     let a = length-append (all-stores alts first) (all-texts (length alts) 0 alts first ++ (word 14 0 ∷ [])) in
     let b = length-append (all-texts (length alts) 0 alts first) (word 14 0 ∷ []) in
@@ -193,7 +194,8 @@ sizing-begins {t} {n} {count} first work R =
       sum = rw (R .counted) (omega arith);
     }
 
-module _ {t : List ℕ} {n count first : ℕ} {work₀ work : List ℕ} {total x i : ℕ} (R : Root t n count (length work₀)) (S : Sizing t n count first work₀ work total x i) where
+module _ {t outline : List ℕ} {n count first : ℕ} {work₀ work : List ℕ} {total x i : ℕ}
+    (R : Root t outline n count (length work₀)) (S : Sizing t n count first work₀ work total x i) where
   pub sizing-on : {work₁ : List ℕ} {s : Size} {c : ℕ} → i < count → s ≡ size-at (chosen t n i) x → work₁ ≡ kept-in (chosen t n i) work → s .words ≤ 18014398509481984
       → length work₁ ≡ length work → c ≡ length (closing count i) → c ≤ 2 → Sizing t n count first work₀ work₁ (total + (s .words + c)) (s .register) (i + 1)
   unfolding size-at all-stores all-texts
@@ -220,7 +222,8 @@ pub record Storing (t : List ℕ) (n first : ℕ) (work₀ out₀ : List ℕ) (a
 pub storing-begins : (t : List ℕ) (n first : ℕ) (work out : List ℕ) (at : ℕ) → Storing t n first work out at work out at first 0
 storing-begins t n first work out at = record { pass = passing-begins t n first work; going = begin out at _ }
 
-module _ {t : List ℕ} {n count first : ℕ} {work₀ out₀ work out : List ℕ} {at p x i : ℕ} (R : Root t n count (length work₀)) (S : Storing t n first work₀ out₀ at work out p x i) where
+module _ {t outline : List ℕ} {n count first : ℕ} {work₀ out₀ work out : List ℕ} {at p x i : ℕ}
+    (R : Root t outline n count (length work₀)) (S : Storing t n first work₀ out₀ at work out p x i) where
   pub stores-fit : i < count → at + length (all-stores (alternatives-of t n) first) ≤ length out₀ → p + length (stores-in (chosen t n i) x) ≤ length out
   unfolding all-stores
   stores-fit h room =
@@ -256,7 +259,8 @@ pub record Joining (t : List ℕ) (n count first : ℕ) (work₀ out₀ : List �
 pub joining-begins : (t : List ℕ) (n count first : ℕ) (work out : List ℕ) (at : ℕ) → Joining t n count first work out at work out at first 0
 joining-begins t n count first work out at = record { pass = passing-begins t n first work; going = begin out at _ }
 
-module _ {t : List ℕ} {n count first : ℕ} {work₀ out₀ work out : List ℕ} {at p x i : ℕ} (R : Root t n count (length work₀)) (S : Joining t n count first work₀ out₀ at work out p x i) where
+module _ {t outline : List ℕ} {n count first : ℕ} {work₀ out₀ work out : List ℕ} {at p x i : ℕ}
+    (R : Root t outline n count (length work₀)) (S : Joining t n count first work₀ out₀ at work out p x i) where
   -- What remains, the next text in front.
   abbrev later-texts : List ℕ
   later-texts = all-texts count (i + 1) (drop (i + 1) (alternatives-of t n)) (x + registers-in (chosen t n i))
@@ -295,7 +299,8 @@ module _ {t : List ℕ} {n count first : ℕ} {work₀ out₀ work out : List �
   joining-ends h w = last (only-the-match h) w
 
 -- Both writing passes.
-module _ {t : List ℕ} {n count : ℕ} (first : ℕ) (out : List ℕ) {work : ℕ} (R : Root t n count work) (room : length (choice-words (alternatives-of t n) first) ≤ length out) where
+module _ {t outline : List ℕ} {n count : ℕ} (first : ℕ) (out : List ℕ) {work : ℕ}
+    (R : Root t outline n count work) (room : length (choice-words (alternatives-of t n) first) ≤ length out) where
   in-two-parts : length (choice-words (alternatives-of t n) first) ≡ length (all-stores (alternatives-of t n) first) + (length (all-texts count 0 (alternatives-of t n) first) + 1)
   unfolding choice-words
   in-two-parts =
@@ -315,7 +320,7 @@ module _ {t : List ℕ} {n count : ℕ} (first : ℕ) (out : List ℕ) {work : �
   both-written w v = last (go (all-stores (alternatives-of t n) first) _ (begin out 0 _) w) (rw (← R .counted) v)
 
 -- Work is as long as it was, so the root is still one that passed.
-pub root-again : {t : List ℕ} {n count work work₁ : ℕ} → Root t n count work → work₁ ≡ work → Root t n count work₁
+pub root-again : {t outline : List ℕ} {n count work work₁ : ℕ} → Root t outline n count work → work₁ ≡ work → Root t outline n count work₁
 root-again R e = rw e R
 
 pub left-twice : (work₀ : List ℕ) {work₁ work₂ : List ℕ} (alts : List SeqAlt) → work₁ ≡ left-behind alts work₀ → work₂ ≡ left-behind alts work₁ → work₂ ≡ left-behind alts (left-behind alts work₀)

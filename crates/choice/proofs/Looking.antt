@@ -112,7 +112,7 @@ steps-fit-rehopped : (ss : List SeqStep) → steps-fit (rehop (Fixed 0) ss) ≡ 
 steps-fit-rehopped [] = refl
 steps-fit-rehopped (s ∷ ss) = refl
 
-module _ {t : List ℕ} {n i : ℕ} {work work₁ : List ℕ} {k : Kept} (C : Chosen t n i (length work)) (H : Holds (chosen t n i) work work₁ k) where
+module _ {t outline : List ℕ} {n i : ℕ} {work work₁ : List ℕ} {k : Kept} (C : Chosen t outline n i (length work)) (H : Holds (chosen t n i) work work₁ k) where
   pub looked : {b : Bool} {r : ℕ} → b ≡ steps-fit (steps-from work₁ 0 (k .steps)) → r ≡ registers-before work₁ (k .steps) → record { fits = b; registers = r } ≡ look-at (chosen t n i)
   unfolding look-at
   looked p q =

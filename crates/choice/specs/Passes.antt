@@ -13,6 +13,7 @@ use Rattle.meaning.specs.Refusals.{room-of, steps-fit}
 use Rattle.meaning.specs.declared.SeqHop.the-variants.{Fixed}
 use Rattle.term.specs.Steps.{steps-words}
 use Rattle.expand.specs.ByNumber.{alternatives-of, nth}
+use Rattle.expand.specs.Outline.{Known}
 use Rattle.term.specs.Guards.{guard-words}
 use Rattle.current.specs.Text.{registers-before}
 use Rattle.pipeline.specs.Stores.{ReadyAll, alternative-store-words}
@@ -23,19 +24,21 @@ use Rattle.choice.specs.declared.Size.{Size}
 use Rattle.choice.specs.RootText.{root-text}
 use Rattle.choice.specs.Alternatives.{registers-in, stores-in, text-in}
 
--- A root that is no within, which the table's checks and the walk let pass with so many words of work; count is how many
--- alternatives it has.
-pub record Root (t : List ℕ) (n count work : ℕ) : Type 0 where
+-- A root that is no within, which the table's checks and the walk let pass with so many words of work, and whose outline is
+-- known; count is how many alternatives it has.
+pub record Root (t o : List ℕ) (n count work : ℕ) : Type 0 where
   pub formed : FormedTable t
   pub inside : n < nodes t
   pub walkable : Walkable (room-of work) (tree-at t n)
+  pub known : Known t o n
   pub counted : count ≡ length (alternatives-of t n)
 
 -- .. and the number of one of its alternatives.
-pub record Chosen (t : List ℕ) (n i work : ℕ) : Type 0 where
+pub record Chosen (t o : List ℕ) (n i work : ℕ) : Type 0 where
   pub formed : FormedTable t
   pub inside : n < nodes t
   pub walkable : Walkable (room-of work) (tree-at t n)
+  pub known : Known t o n
   pub index : i < length (alternatives-of t n)
 
 -- The i-th alternative of node n.

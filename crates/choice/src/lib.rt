@@ -1,6 +1,6 @@
 // The choice at a root that is no within (`synth_seq_match` of the source). Alternatives are numbered and never stored
-// together: each pass writes one after the other into work and looks at it there. So no expression is kept, and nothing is
-// written into the output before its size is known.
+// together: each pass writes one after the other into work, by the tree's outline, and looks at it there. So no expression is
+// kept, and nothing is written into the output before its size is known.
 //
 // Example: `a[*1:2]` has two alternatives. The passes find no misplaced Empty, count 1 register and 12 words, write
 // `a0 any seq0`, then `a0 any`, then `r0 a0 any and any or`, and end the match.
@@ -109,13 +109,13 @@ pub struct Kept {
 }
 
 // Writes the i-th alternative into work, over what stood there.
-fn keep(t: &[u32], n: u32, i: u32, work: &mut [u32]) -> Kept
-    requires { ⌜ Chosen (now t) n i (length (now work)) ⌝ }
+fn keep(t: &[u32], outline: &[u32], n: u32, i: u32, work: &mut [u32]) -> Kept
+    requires { ⌜ Chosen (now t) (now outline) n i (length (now work)) ⌝ }
     ensures { λ k. ⌜ Holds (chosen (now (t .entry)) n i) (now (work .entry)) (now (work .exit)) k ⌝ }
 {
     let middle = work.len() / 2;
-    let steps = expand::alternative(t, n, i, meaning::SeqHop::Fixed(0), work, 0);
-    let end = guards::guard_words(t, n, i, work, middle);
+    let steps = expand::alternative(t, outline, n, i, meaning::SeqHop::Fixed(0), work, 0);
+    let end = guards::guard_words(t, outline, n, i, work, middle);
     Kept {
         steps: steps / 5,
         guard: middle,
@@ -124,13 +124,13 @@ fn keep(t: &[u32], n: u32, i: u32, work: &mut [u32]) -> Kept
 }
 
 // The first look at the i-th alternative: whether 12 lets it pass, and its registers.
-fn look_at(t: &[u32], n: u32, i: u32, work: &mut [u32]) -> Look
-    requires { ⌜ Chosen (now t) n i (length (now work)) ⌝ }
+fn look_at(t: &[u32], outline: &[u32], n: u32, i: u32, work: &mut [u32]) -> Look
+    requires { ⌜ Chosen (now t) (now outline) n i (length (now work)) ⌝ }
     ensures { λ r. ⌜ r ≡ look-at (chosen (now (t .entry)) n i) ⌝ }
     ensures kept { λ _. ⌜ now (work .exit) ≡ kept-in (chosen (now (t .entry)) n i) (now (work .entry)) ⌝ }
     ensures small { λ r. ⌜ r .registers ≤ 562949953421312 ⌝ }
 {
-    let k = keep(t, n, i, work);
+    let k = keep(t, outline, n, i, work);
     let fits = pipeline::steps_fit(work, k.steps);
     let registers = pipeline::registers(work, k.steps);
     Look {
@@ -189,19 +189,20 @@ fn kept_text(work: &[u32], k: Kept, x: u32, out: &mut [u32], at: usize) -> Mark
 }
 
 // The words of the i-th alternative, from register x on.
-fn size_of(t: &[u32], n: u32, i: u32, x: u32, work: &mut [u32]) -> Size
-    requires { ⌜ Chosen (now t) n i (length (now work)) × (x + registers-in (chosen (now t) n i) ≤ 65536) ⌝ }
+fn size_of(t: &[u32], outline: &[u32], n: u32, i: u32, x: u32, work: &mut [u32]) -> Size
+    requires { ⌜ Chosen (now t) (now outline) n i (length (now work)) × (x + registers-in (chosen (now t) n i) ≤ 65536) ⌝ }
     ensures { λ r. ⌜ r ≡ size-at (chosen (now (t .entry)) n i) x ⌝ }
     ensures kept { λ _. ⌜ now (work .exit) ≡ kept-in (chosen (now (t .entry)) n i) (now (work .entry)) ⌝ }
     ensures small { λ r. ⌜ r .words ≤ 18014398509481984 ⌝ }
 {
-    let k = keep(t, n, i, work);
+    let k = keep(t, outline, n, i, work);
     kept_size(work, k, x)
 }
 
 // Puts the assignments of the i-th alternative, from register x on.
 fn stores_of(
     t: &[u32],
+    outline: &[u32],
     n: u32,
     i: u32,
     x: u32,
@@ -209,21 +210,30 @@ fn stores_of(
     out: &mut [u32],
     at: usize,
 ) -> Mark
-    requires { ⌜ Chosen (now t) n i (length (now work)) × (x + registers-in (chosen (now t) n i) ≤ 65536) × (at + length (stores-in (chosen (now t) n i) x) ≤ length (now out)) ⌝ }
+    requires { ⌜ Chosen (now t) (now outline) n i (length (now work)) × (x + registers-in (chosen (now t) n i) ≤ 65536) × (at + length (stores-in (chosen (now t) n i) x) ≤ length (now out)) ⌝ }
     ensures { λ m. ⌜ Marked (now (out .entry)) (now (out .exit)) at m (stores-in (chosen (now (t .entry)) n i) x) (x + registers-in (chosen (now (t .entry)) n i)) ⌝ }
     ensures kept { λ _. ⌜ now (work .exit) ≡ kept-in (chosen (now (t .entry)) n i) (now (work .entry)) ⌝ }
 {
-    let k = keep(t, n, i, work);
+    let k = keep(t, outline, n, i, work);
     kept_stores(work, k, x, out, at)
 }
 
 // Puts its match.
-fn text_of(t: &[u32], n: u32, i: u32, x: u32, work: &mut [u32], out: &mut [u32], at: usize) -> Mark
-    requires { ⌜ Chosen (now t) n i (length (now work)) × (x + registers-in (chosen (now t) n i) ≤ 65536) × (at + length (text-in (chosen (now t) n i) x) ≤ length (now out)) ⌝ }
+fn text_of(
+    t: &[u32],
+    outline: &[u32],
+    n: u32,
+    i: u32,
+    x: u32,
+    work: &mut [u32],
+    out: &mut [u32],
+    at: usize,
+) -> Mark
+    requires { ⌜ Chosen (now t) (now outline) n i (length (now work)) × (x + registers-in (chosen (now t) n i) ≤ 65536) × (at + length (text-in (chosen (now t) n i) x) ≤ length (now out)) ⌝ }
     ensures { λ m. ⌜ Marked (now (out .entry)) (now (out .exit)) at m (text-in (chosen (now (t .entry)) n i) x) (x + registers-in (chosen (now (t .entry)) n i)) ⌝ }
     ensures kept { λ _. ⌜ now (work .exit) ≡ kept-in (chosen (now (t .entry)) n i) (now (work .entry)) ⌝ }
 {
-    let k = keep(t, n, i, work);
+    let k = keep(t, outline, n, i, work);
     kept_text(work, k, x, out, at)
 }
 
@@ -262,6 +272,7 @@ fn close(count: u32, i: u32, out: &mut [u32], at: usize) -> usize
 // The i-th text with the words behind it.
 fn joined_text_of(
     t: &[u32],
+    outline: &[u32],
     n: u32,
     count: u32,
     i: u32,
@@ -270,11 +281,11 @@ fn joined_text_of(
     out: &mut [u32],
     at: usize,
 ) -> Mark
-    requires { ⌜ Chosen (now t) n i (length (now work)) × (x + registers-in (chosen (now t) n i) ≤ 65536) × (at + (length (text-in (chosen (now t) n i) x) + length (closing count i)) ≤ length (now out)) ⌝ }
+    requires { ⌜ Chosen (now t) (now outline) n i (length (now work)) × (x + registers-in (chosen (now t) n i) ≤ 65536) × (at + (length (text-in (chosen (now t) n i) x) + length (closing count i)) ≤ length (now out)) ⌝ }
     ensures { λ m. ⌜ Marked (now (out .entry)) (now (out .exit)) at m (text-in (chosen (now (t .entry)) n i) x ++ closing count i) (x + registers-in (chosen (now (t .entry)) n i)) ⌝ }
     ensures kept { λ _. ⌜ now (work .exit) ≡ kept-in (chosen (now (t .entry)) n i) (now (work .entry)) ⌝ }
 {
-    let m = text_of(t, n, i, x, work, out, at);
+    let m = text_of(t, outline, n, i, x, work, out, at);
     let p = close(count, i, out, m.place);
     Mark {
         place: p,
@@ -283,15 +294,15 @@ fn joined_text_of(
 }
 
 // The first pass: refusal 12, or all registers.
-pub fn surveyed(t: &[u32], n: u32, count: u32, work: &mut [u32]) -> Survey
-    requires { ⌜ Root (now t) n count (length (now work)) ⌝ }
+pub fn surveyed(t: &[u32], outline: &[u32], n: u32, count: u32, work: &mut [u32]) -> Survey
+    requires { ⌜ Root (now t) (now outline) n count (length (now work)) ⌝ }
     ensures { λ r. ⌜ r ≡ survey-of (alternatives-of (now (t .entry)) n) ⌝ }
     ensures left { λ _. ⌜ now (work .exit) ≡ left-by-survey (alternatives-of (now (t .entry)) n) (now (work .entry)) ⌝ }
 {
     let mut total: u64 = 0;
     let mut i = 0;
     while i < count {
-        let l = look_at(t, n, i, work);
+        let l = look_at(t, outline, n, i, work);
         if !l.fits {
             return Survey::Misplaced(i);
         }
@@ -302,8 +313,15 @@ pub fn surveyed(t: &[u32], n: u32, count: u32, work: &mut [u32]) -> Survey
 }
 
 // The second pass: how many words there are, in 64 bits.
-pub fn word_count(t: &[u32], n: u32, count: u32, first: u32, work: &mut [u32]) -> u64
-    requires { ⌜ Root (now t) n count (length (now work)) × (first + all-registers (alternatives-of (now t) n) ≤ 65536) ⌝ }
+pub fn word_count(
+    t: &[u32],
+    outline: &[u32],
+    n: u32,
+    count: u32,
+    first: u32,
+    work: &mut [u32],
+) -> u64
+    requires { ⌜ Root (now t) (now outline) n count (length (now work)) × (first + all-registers (alternatives-of (now t) n) ≤ 65536) ⌝ }
     ensures { λ r. ⌜ r ≡ length (choice-words (alternatives-of (now (t .entry)) n) first) ⌝ }
     ensures left { λ _. ⌜ now (work .exit) ≡ left-behind (alternatives-of (now (t .entry)) n) (now (work .entry)) ⌝ }
 {
@@ -311,7 +329,7 @@ pub fn word_count(t: &[u32], n: u32, count: u32, first: u32, work: &mut [u32]) -
     let mut x = first;
     let mut i = 0;
     while i < count {
-        let s = size_of(t, n, i, x, work);
+        let s = size_of(t, outline, n, i, x, work);
         total += s.words + closing_length(count, i);
         x = s.register;
         i += 1;
@@ -322,6 +340,7 @@ pub fn word_count(t: &[u32], n: u32, count: u32, first: u32, work: &mut [u32]) -
 // The third pass: all assignments.
 fn put_stores(
     t: &[u32],
+    outline: &[u32],
     n: u32,
     count: u32,
     first: u32,
@@ -329,7 +348,7 @@ fn put_stores(
     out: &mut [u32],
     at: usize,
 ) -> usize
-    requires { ⌜ Root (now t) n count (length (now work)) × (first + all-registers (alternatives-of (now t) n) ≤ 65536) × (at + length (all-stores (alternatives-of (now t) n) first) ≤ length (now out)) ⌝ }
+    requires { ⌜ Root (now t) (now outline) n count (length (now work)) × (first + all-registers (alternatives-of (now t) n) ≤ 65536) × (at + length (all-stores (alternatives-of (now t) n) first) ≤ length (now out)) ⌝ }
     ensures { λ next. ⌜ Wrote (now (out .entry)) (now (out .exit)) at next (all-stores (alternatives-of (now (t .entry)) n) first) ⌝ }
     ensures left { λ _. ⌜ now (work .exit) ≡ left-behind (alternatives-of (now (t .entry)) n) (now (work .entry)) ⌝ }
 {
@@ -337,7 +356,7 @@ fn put_stores(
     let mut x = first;
     let mut i = 0;
     while i < count {
-        let m = stores_of(t, n, i, x, work, out, p);
+        let m = stores_of(t, outline, n, i, x, work, out, p);
         p = m.place;
         x = m.register;
         i += 1;
@@ -348,6 +367,7 @@ fn put_stores(
 // The fourth pass: the match.
 fn put_match(
     t: &[u32],
+    outline: &[u32],
     n: u32,
     count: u32,
     first: u32,
@@ -355,7 +375,7 @@ fn put_match(
     out: &mut [u32],
     at: usize,
 ) -> usize
-    requires { ⌜ Root (now t) n count (length (now work)) × (first + all-registers (alternatives-of (now t) n) ≤ 65536) × (at + (length (all-texts count 0 (alternatives-of (now t) n) first) + 1) ≤ length (now out)) ⌝ }
+    requires { ⌜ Root (now t) (now outline) n count (length (now work)) × (first + all-registers (alternatives-of (now t) n) ≤ 65536) × (at + (length (all-texts count 0 (alternatives-of (now t) n) first) + 1) ≤ length (now out)) ⌝ }
     ensures { λ next. ⌜ Wrote (now (out .entry)) (now (out .exit)) at next (all-texts count 0 (alternatives-of (now (t .entry)) n) first ++ (word 14 0 ∷ [])) ⌝ }
     ensures left { λ _. ⌜ now (work .exit) ≡ left-behind (alternatives-of (now (t .entry)) n) (now (work .entry)) ⌝ }
 {
@@ -363,7 +383,7 @@ fn put_match(
     let mut x = first;
     let mut i = 0;
     while i < count {
-        let m = joined_text_of(t, n, count, i, x, work, out, p);
+        let m = joined_text_of(t, outline, n, count, i, x, work, out, p);
         p = m.place;
         x = m.register;
         i += 1;
@@ -372,11 +392,19 @@ fn put_match(
 }
 
 // The third and the fourth pass: the whole listing, from the front of the output on; how many words it has.
-pub fn write(t: &[u32], n: u32, count: u32, first: u32, work: &mut [u32], out: &mut [u32]) -> usize
-    requires { ⌜ Root (now t) n count (length (now work)) × (first + all-registers (alternatives-of (now t) n) ≤ 65536) × (length (choice-words (alternatives-of (now t) n) first) ≤ length (now out)) ⌝ }
+pub fn write(
+    t: &[u32],
+    outline: &[u32],
+    n: u32,
+    count: u32,
+    first: u32,
+    work: &mut [u32],
+    out: &mut [u32],
+) -> usize
+    requires { ⌜ Root (now t) (now outline) n count (length (now work)) × (first + all-registers (alternatives-of (now t) n) ≤ 65536) × (length (choice-words (alternatives-of (now t) n) first) ≤ length (now out)) ⌝ }
     ensures { λ end. ⌜ Wrote (now (out .entry)) (now (out .exit)) 0 end (choice-words (alternatives-of (now (t .entry)) n) first) ⌝ }
     ensures left { λ _. ⌜ now (work .exit) ≡ left-behind (alternatives-of (now (t .entry)) n) (left-behind (alternatives-of (now (t .entry)) n) (now (work .entry))) ⌝ }
 {
-    let at = put_stores(t, n, count, first, work, out, 0);
-    put_match(t, n, count, first, work, out, at)
+    let at = put_stores(t, outline, n, count, first, work, out, 0);
+    put_match(t, outline, n, count, first, work, out, at)
 }

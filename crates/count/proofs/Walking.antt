@@ -9,8 +9,8 @@ use native.Mathlib.Decide.{ℕ-discrete}
 use lib.Dec.{eqb, ltb}
 use lib.ListN.{length}
 use borrow.Author.Tests.{eqb-true, eqb-false, eq-eqb, ne-eqb, lt-ltb, not-true}
-use Rattle.words.specs.Choice.{pick, pick-case, pick-true}
-use Rattle.meaning.specs.Tree.{finite, Seq, delay, consec, number, node-at, unlimited, max-of, tree-at, nodes}
+use Rattle.words.specs.Choice.{pick, pick-true}
+use Rattle.meaning.specs.Tree.{finite, Seq, delay, consec, node-at, unlimited, max-of, tree-at, nodes}
 use Rattle.meaning.specs.Alternative.{consec-finite, guard-each, expand}
 use Rattle.meaning.specs.Refusals.{plain, counts, limited, and-then, deep-enough, walk-in, walk}
 use Rattle.meaning.specs.Lowerable.{WellFormed, FormedTable}
@@ -18,7 +18,7 @@ use Rattle.meaning.specs.declared.Node.{Node}
 use Rattle.meaning.specs.declared.Counts.{Counts}
 use Rattle.meaning.specs.declared.Walked.{Walked}
 use Rattle.meaning.specs.declared.Walked.the-variants.{Counted, Refused}
-use Rattle.meaning.proofs.Nodes.{at-delay, at-throughout}
+use Rattle.meaning.proofs.Nodes.{number-of, at-delay, at-throughout}
 use Rattle.words.proofs.Taken.{both-hold}
 use Rattle.meaning.proofs.Ranges.{finite-max, a-formed-tree-is-ranged}
 use Rattle.meaning.proofs.Walks.{a-walked-tree-is-walkable, the-walk-counts-the-expansion, a-walkable-tree-is-bounded}
@@ -49,16 +49,6 @@ pub answer-has-some : (t : List ℕ) (k room d : ℕ) {r : Walked} {c : Counts} 
     → 1 ≤ length (expand (tree-at t k))
 answer-has-some t k room d {r} {c} formed inside e q =
     a-walkable-tree-has-alternatives room (tree-at t k) (a-formed-tree-is-ranged t formed k inside) (a-walked-tree-is-walkable room d (tree-at t k) c (sym e ∙ q))
-
--- A tree has the number of its node.
-number-of : (t : List ℕ) (n : ℕ) → number (tree-at t n) ≡ n
-unfolding tree-at
-number-of t n =
-    pick-case Numbered _ (λ _. refl) (λ _. pick-case Numbered _ (λ _. refl) (λ _. pick-case Numbered _ (λ _. refl)
-    (λ _. pick-case Numbered _ (λ _. refl) (λ _. pick-case Numbered _ (λ _. refl) (λ _. pick-case Numbered _ (λ _. refl) (λ _. refl))))))
-  where
-    Numbered : Seq → Type 0
-    Numbered s = number s ≡ n
 
 -- 4.
 pub too-deep : (t : List ℕ) (n room d : ℕ) → 256 < d → Refused 4 n ≡ walk room d (tree-at t n)

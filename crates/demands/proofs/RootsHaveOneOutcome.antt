@@ -46,13 +46,13 @@ module _ {tree : List ℕ} {first : ℕ} {work out : List ℕ} {answer answer′
 module _ {M : Type 1} (𝓤 : URA M) (H : Heap 𝓤) (A : Atoms 𝓤) (mem : Memory → SProp 𝓤) (run : Routine → Fun 𝓤) where
   -- The choice at a root that is no within.
   pub choice-surveyed-has-one-outcome : OneOutcome 𝓤 surveyed.ended (surveyed.clauses 𝓤 H A mem run)
-  choice-surveyed-has-one-outcome κs a g o o′ = by-equations 𝓤 (λ work. (tt, (tt, (tt, (work, tt)))))
+  choice-surveyed-has-one-outcome κs a g o o′ = by-equations 𝓤 (λ work. (tt, (tt, (tt, (tt, (work, tt))))))
 
   pub choice-word-count-has-one-outcome : OneOutcome 𝓤 choice-word-count.ended (choice-word-count.clauses 𝓤 H A mem run)
-  choice-word-count-has-one-outcome κs a g o o′ = by-equations 𝓤 (λ work. (tt, (tt, (tt, (tt, (work, tt))))))
+  choice-word-count-has-one-outcome κs a g o o′ = by-equations 𝓤 (λ work. (tt, (tt, (tt, (tt, (tt, (work, tt)))))))
 
   pub choice-write-has-one-outcome : OneOutcome 𝓤 choice-write.ended (choice-write.clauses 𝓤 H A mem run)
-  choice-write-has-one-outcome κs a g o o′ = by-writing-and-an-equation 𝓤 (λ work out. (tt, (tt, (tt, (tt, (work, (out, tt)))))))
+  choice-write-has-one-outcome κs a g o o′ = by-writing-and-an-equation 𝓤 (λ work out. (tt, (tt, (tt, (tt, (tt, (work, (out, tt))))))))
 
   -- One pair of windows.
   pub pair-window-len-has-one-outcome : OneOutcome 𝓤 window-len.ended (window-len.clauses 𝓤 H A mem run)
@@ -88,7 +88,7 @@ module _ {M : Type 1} (𝓤 : URA M) (H : Heap 𝓤) (A : Atoms 𝓤) (mem : Mem
 
   pub within-write-has-one-outcome :
       OneOutcomeUpTo 𝓤 within-write.ended (within-write.clauses 𝓤 H A mem run)
-      (λ κs a o o′. (o .result ≡ o′ .result) × (o .left .1 .1 .1 .1 .1 .0 ≡ o′ .left .1 .1 .1 .1 .1 .0))
+      (λ κs a o o′. (o .result ≡ o′ .result) × (o .left .1 .1 .1 .1 .1 .1 .0 ≡ o′ .left .1 .1 .1 .1 .1 .1 .0))
   within-write-has-one-outcome κs a g o o′ = from-both 𝓤 (λ w w′. (same (w .ends) (w′ .ends), same (w .holds) (w′ .holds)))
 
   -- The whole lowering.

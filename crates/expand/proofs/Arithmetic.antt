@@ -8,12 +8,12 @@ use native.Mathlib.Nat.{mul-le-mul, le-refl, sub-zero, add-zero}
 use native.Mathlib.Numerals.{add-one}
 use mir.Val.{Fits}
 use mir.Syntax.{w32}
-use borrow.Author.Tests.{lt-ltb, le-ltb, eq-eqb, ne-eqb, eqb-true}
+use borrow.Author.Tests.{lt-ltb, le-ltb, eq-eqb, ne-eqb}
 use lib.Dec.{eqb, leb}
-use Rattle.words.specs.Choice.{pick, pick-true, pick-false, pick-case}
+use Rattle.words.specs.Choice.{pick-true, pick-false, pick-case}
 use Rattle.meaning.specs.declared.Node.{Node}
 use Rattle.meaning.specs.Tree.{unlimited}
-use Rattle.expand.specs.ByNumber.{hops-between, copies-count, copies-from-count, block-of, empties, repeats, is-copies, single-count, in-first-block}
+use Rattle.expand.specs.ByNumber.{hops-between, copies-count, copies-from-count, block-of, empties, repeats, is-copies, single-count}
 use Rattle.expand.specs.declared.Block.{Block}
 
 -- One copy more multiplies by a, so that the counts do not fall.
@@ -147,34 +147,6 @@ pub finding-last : {a k more i p j at : ℕ} → Finding a k more i p j at → m
     → record { later = k + at; index = j } ≡ block-of a k more i
 unfolding block-of
 finding-last {a} {k} {more} {i} {p} {j} {at} g h = let e : more - at ≡ 0 = omega arith in sym (g .rest ∙ rw e refl)
-
--- The first number stands in the first block, which has one.
-first-number : (a k more : ℕ) → 0 < a → block-of a k more 0 ≡ record { later = k; index = 0 }
-unfolding block-of copies-count
-first-number a k zero h = refl
-first-number a k (suc more) h =
-    let some : a ≤ copies-count a k = copies-monotone a 0 k h (omega arith) in pick-true _ _ (lt-ltb 0 (copies-count a k) (omega arith))
-
--- What the tests of `is_in_first_block` say: the operand's count does not matter.
-pub first-of-blocks : (a min max i : ℕ) → 0 < a → in-first-block min max i ≡ true
-    → block-of a (min - 1) (max - (min - 1) - 1) (i - empties min) ≡ record { later = min - 1; index = i - empties min }
-unfolding in-first-block pick block-of
-first-of-blocks a min max i h e = go (eqb (max - (min - 1)) 1) refl e
-  where
-    go : (b : Bool) → eqb (max - (min - 1)) 1 ≡ b → pick b true (eqb i (empties min)) ≡ true
-        → block-of a (min - 1) (max - (min - 1) - 1) (i - empties min) ≡ record { later = min - 1; index = i - empties min }
-    go true x y = let z : max - (min - 1) - 1 ≡ 0 = omega (arith, eqb-true (max - (min - 1)) 1 x) in rw z refl
-    go false x y = let z : i - empties min ≡ 0 = omega (arith, eqb-true i (empties min) y) in rw z (first-number a (min - 1) (max - (min - 1) - 1) h)
-
--- .. as it makes them, with one less than the minimum under the name k and the Empties under the name e.
-module _ (min max i : ℕ) {k : ℕ} (p : k ≡ min - 1) where
-  pub one-block : max - k ≡ 1 → true ≡ in-first-block min max i
-  unfolding in-first-block
-  one-block h = sym (pick-true _ _ (eq-eqb _ _ (rw p at h)))
-
-  pub several-blocks : {e : ℕ} → (max - k ≡ 1 → ⊥) → e ≡ empties min → eqb i e ≡ in-first-block min max i
-  unfolding in-first-block
-  several-blocks h q = sym (pick-false _ _ (ne-eqb _ _ (λ (z : max - (min - 1) ≡ 1). h (rw p z))) ∙ rw q refl)
 
 -- `hop_count` past its first test.
 pub hops-none : {min max : ℕ} → (max ≡ unlimited → ⊥) → max < min → 0 ≡ hops-between min max

@@ -52,7 +52,7 @@ repetition v p q =
     record { kind = eqb-true _ _ three; limited = eqb-false _ _ limit; live = ltb-true _ _ some }
 
 -- .. and where they fail for a finite [*], it is [*0].
-no-repetition : (v : Node) {b : Bool} → b ≡ repeats v → b ≡ false → v .kind ≡ 3 → (v .max ≡ unlimited → ⊥) → v .max ≡ 0
+pub no-repetition : (v : Node) {b : Bool} → b ≡ repeats v → b ≡ false → v .kind ≡ 3 → (v .max ≡ unlimited → ⊥) → v .max ≡ 0
 unfolding repeats
 no-repetition v p q k l =
     let limit : pick (eqb (v .max) unlimited) false (ltb 0 (v .max)) ≡ ltb 0 (v .max) = pick-false _ _ (ne-eqb _ _ l) in
@@ -89,7 +89,7 @@ module _ {t : List ℕ} {n : ℕ} (E : Expandable t n) where
 
     -- ---- delay
 
-    is-delay : v .kind ≡ 2 → tree-at t n ≡ delay n (tree-at t (v .p)) (tree-at t (v .q)) (v .min) (max-of (v .max))
+    pub is-delay : v .kind ≡ 2 → tree-at t n ≡ delay n (tree-at t (v .p)) (tree-at t (v .q)) (v .min) (max-of (v .max))
     is-delay k = let e = rw w at k in at-delay t n e (f .delay-left e) (f .delay-right e) ∙ rw w refl
 
     delay-walkable : v .kind ≡ 2 → Walkable (E .room) (tree-at t (v .p)) × Walkable (E .room) (tree-at t (v .q))
@@ -109,7 +109,7 @@ module _ {t : List ℕ} {n : ℕ} (E : Expandable t n) where
 
     -- ---- throughout
 
-    is-throughout : v .kind ≡ 6 → tree-at t n ≡ throughout n (v .p) (tree-at t (v .q))
+    pub is-throughout : v .kind ≡ 6 → tree-at t n ≡ throughout n (v .p) (tree-at t (v .q))
     is-throughout k = let e = rw w at k in at-throughout t n e (f .throughout-under e) ∙ rw w refl
 
     pub guarded-expandable : v .kind ≡ 6 → Expandable t (v .q)
@@ -125,13 +125,13 @@ module _ {t : List ℕ} {n : ℕ} (E : Expandable t n) where
     is-consec : v .kind ≡ 3 → tree-at t n ≡ consec n (tree-at t (v .p)) (v .min) (max-of (v .max))
     is-consec k = let e = rw w at k in at-consec t n e (f .consec-under e) ∙ rw w refl
 
-    is-finite : v .kind ≡ 3 → (v .max ≡ unlimited → ⊥) → tree-at t n ≡ consec n (tree-at t (v .p)) (v .min) (finite (v .max))
+    pub is-finite : v .kind ≡ 3 → (v .max ≡ unlimited → ⊥) → tree-at t n ≡ consec n (tree-at t (v .p)) (v .min) (finite (v .max))
     is-finite k l = is-consec k ∙ ap (consec n (tree-at t (v .p)) (v .min)) (finite-max _ l)
 
-    is-unbounded : v .kind ≡ 3 → v .max ≡ unlimited → tree-at t n ≡ consec n (tree-at t (v .p)) (v .min) unbounded
+    pub is-unbounded : v .kind ≡ 3 → v .max ≡ unlimited → tree-at t n ≡ consec n (tree-at t (v .p)) (v .min) unbounded
     is-unbounded k u = is-consec k ∙ ap (consec n (tree-at t (v .p)) (v .min)) (unbounded-max _ u)
 
-    finite-alternatives : v .kind ≡ 3 → (v .max ≡ unlimited → ⊥)
+    pub finite-alternatives : v .kind ≡ 3 → (v .max ≡ unlimited → ⊥)
         → alternatives-of t n ≡ consec-finite (alternatives-of t (v .p)) (v .min) (v .max)
     unfolding alternatives-of
     finite-alternatives k l = rw (is-finite k l) refl
@@ -161,36 +161,36 @@ module _ {t : List ℕ} {n : ℕ} (E : Expandable t n) where
         → over (operand (tree-at t (v .p))) g ≡ g (node-at t (v .p) .p)
     over-operand g l B = ap (λ (x : Operand). over x g) (boolean-operand t (v .p) (E .formed) (omega (arith, E .inside)) B)
 
-    unbounded-alternatives : v .kind ≡ 3 → v .max ≡ unlimited → alternatives-of t n ≡ consec-unbounded (v .min) (node-at t (v .p) .p)
+    pub unbounded-alternatives : v .kind ≡ 3 → v .max ≡ unlimited → alternatives-of t n ≡ consec-unbounded (v .min) (node-at t (v .p) .p)
     unfolding alternatives-of Walkable
     unbounded-alternatives k u =
         ap expand (is-unbounded k u)
         ∙ over-operand (consec-unbounded (v .min)) (well-formed .consec-under k) (let W = rw (is-unbounded k u) at (E .walkable) in W .1)
 
-    is-goto : v .kind ≡ 4 → tree-at t n ≡ goto n (tree-at t (v .p)) (v .min)
+    pub is-goto : v .kind ≡ 4 → tree-at t n ≡ goto n (tree-at t (v .p)) (v .min)
     is-goto k = let e = rw w at k in at-goto t n e (f .goto-under e) ∙ rw w refl
 
-    goto-alternatives : v .kind ≡ 4 → alternatives-of t n ≡ single (Goto (node-at t (v .p) .p) (v .min)) ∷ []
+    pub goto-alternatives : v .kind ≡ 4 → alternatives-of t n ≡ single (Goto (node-at t (v .p) .p) (v .min)) ∷ []
     unfolding alternatives-of Walkable
     goto-alternatives k =
         ap expand (is-goto k)
         ∙ over-operand (λ b. single (Goto b (v .min)) ∷ []) (well-formed .goto-under k) (let W = rw (is-goto k) at (E .walkable) in W .1)
 
-    is-nonconsec : v .kind ≡ 5 → tree-at t n ≡ nonconsec n (tree-at t (v .p)) (v .min)
+    pub is-nonconsec : v .kind ≡ 5 → tree-at t n ≡ nonconsec n (tree-at t (v .p)) (v .min)
     is-nonconsec k = let e = rw w at k in at-nonconsec t n e (f .nonconsec-under e) ∙ rw w refl
 
-    nonconsec-alternatives : v .kind ≡ 5 → alternatives-of t n ≡ single (Nonconsec (node-at t (v .p) .p) (v .min)) ∷ []
+    pub nonconsec-alternatives : v .kind ≡ 5 → alternatives-of t n ≡ single (Nonconsec (node-at t (v .p) .p) (v .min)) ∷ []
     unfolding alternatives-of Walkable
     nonconsec-alternatives k =
         ap expand (is-nonconsec k)
         ∙ over-operand (λ b. single (Nonconsec b (v .min)) ∷ []) (well-formed .nonconsec-under k) (let W = rw (is-nonconsec k) at (E .walkable) in W .1)
 
-    atom-alternatives : v .kind ≡ 1 → alternatives-of t n ≡ single (BoolTerm (v .p)) ∷ []
+    pub atom-alternatives : v .kind ≡ 1 → alternatives-of t n ≡ single (BoolTerm (v .p)) ∷ []
     unfolding alternatives-of
     atom-alternatives k = ap expand (at-atom t n (rw w at k)) ∙ rw w refl
 
     -- 8: a within is the root's alone.
-    no-within : v .kind ≡ 7 → ⊥
+    pub no-within : v .kind ≡ 7 → ⊥
     unfolding Walkable
     no-within k =
         let e = rw w at k in
@@ -200,7 +200,7 @@ module _ {t : List ℕ} {n : ℕ} (E : Expandable t n) where
 
     module _ (d : v .kind ≡ 2 → ⊥) (g : v .kind ≡ 6 → ⊥) where
       -- Four kinds are left.
-      by-single-kind : {P : Type 0} → (v .kind ≡ 1 → P) → (v .kind ≡ 3 → P) → (v .kind ≡ 4 → P) → (v .kind ≡ 5 → P) → P
+      pub by-single-kind : {P : Type 0} → (v .kind ≡ 1 → P) → (v .kind ≡ 3 → P) → (v .kind ≡ 4 → P) → (v .kind ≡ 5 → P) → P
       by-single-kind p₁ p₃ p₄ p₅ =
           by-kind (v .kind) (well-formed .known) p₁ (λ k. absurd (d k)) p₃ p₄ p₅ (λ k. absurd (g k)) (λ k. absurd (no-within k))
 

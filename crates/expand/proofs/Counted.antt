@@ -1,4 +1,4 @@
--- The number of a node's alternatives, as `alternatives` meets it: hops times left times right, an Empty and the blocks of
+-- The number of a node's alternatives, as `put_outline` meets it: hops times left times right, an Empty and the blocks of
 -- copies, or what is one term each. And the bounds under which nothing overflows and no division is by 0.
 use mathlib.Core.Path.{_≡_, refl, sym, ap, _∙_}
 use mathlib.Core.Bool.{Bool, true, false}

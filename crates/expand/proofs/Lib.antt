@@ -3,7 +3,9 @@ pub mod Index
 pub mod Every
 pub mod ByKind
 pub mod Counted
-pub mod Radix
+pub mod Outlines
+pub mod GuardFlags
+pub mod Outlining
 pub mod Numbers
 pub mod Written
 pub mod Room

@@ -5,7 +5,7 @@ use mathlib.Core.Bool.{Bool, true, false}
 use mathlib.Core.List.{List}
 use Prim.Native.Nat.{ℕ, suc, _+_, _*_, _-_, _<_, _≤_, _/_, _%_}
 use native.Mathlib.Omega.{arith}
-use native.Mathlib.Nat.{mod-lt, div-lt-iff-lt-mul}
+use native.Mathlib.Nat.{mod-lt}
 use lib.Dec.{eqb}
 use lib.ListN.{length, getD}
 use borrow.Author.Tests.{leb-true}
@@ -21,11 +21,12 @@ use Rattle.words.proofs.Taken.{both-hold}
 use Rattle.expand.specs.declared.Parts.{Parts}
 use Rattle.expand.specs.declared.Block.{Block}
 use Rattle.expand.specs.declared.CopyDigits.{CopyDigits}
-use Rattle.expand.specs.ByNumber.{alternatives-of, copies-of, nth, hops-between, hop-at, parts-of, copies-count, copies-from-count, block-of, empties, repeats, is-copies, delay-parts, copies-block, in-first-block, digits-of, DividesAlike, Expandable, NumberedDelay, NumberedLeft, Numbered, NumberedCopies}
-use Rattle.expand.proofs.Arithmetic.{first-of-blocks}
+use Rattle.expand.specs.ByNumber.{alternatives-of, copies-of, nth, hops-between, hop-at, parts-of, copies-from-count, block-of, empties, repeats, is-copies, digits-of, Expandable, Numbered, NumberedCopies}
+use Rattle.expand.specs.Outline.{count-in, bare-in, delay-parts, copies-block, DelayCounted, CopiesCounted, Known}
 use Rattle.expand.proofs.Index.{nth-delay, nth-fixed-from, nth-guarded, digits-below, Digits, nth-copies, copies-index, InBlock, nth-block, length-copies-from, finite-blocks, nth-past-empty}
 use Rattle.expand.proofs.ByKind.{Repetition, repetition, some-alternatives, few-alternatives, well-formed, left-expandable, right-expandable, delay-alternatives, guarded-expandable, throughout-alternatives, copied-expandable, few-copies, copies-in-order, repeated-alternatives}
-use Rattle.expand.proofs.Counted.{length-hops-between, delay-count, few-hops, throughout-count, copied-some, copied-few, first-few, repeated-count}
+use Rattle.expand.proofs.Counted.{length-hops-between, delay-count, throughout-count, copied-some, copied-few, first-few, repeated-count}
+use Rattle.expand.proofs.Outlines.{count-known, inside-outline, left-known, right-known, guarded-known, copied-known, bare-found}
 
 -- The k-th hop of a delay.
 nth-hop : (min max k : ℕ) → k < length (hops min (max-of max)) → getD (hops min (max-of max)) k (Fixed 0) ≡ hop-at min max k
@@ -46,25 +47,18 @@ hop-fits min max k p q h = go (eqb max unlimited) h
     go true h = omega arith
     go false h = omega arith
 
-module _ {t : List ℕ} {n i : ℕ} {v : Node} (N : Numbered t n i) (w : v ≡ node-at t n) where
+module _ {t o : List ℕ} {n i : ℕ} {v : Node} (N : Numbered t n i) (K : Known t o n) (w : v ≡ node-at t n) where
   E : Expandable t n
   E = N .node
 
-  -- A number is below the node's count.
-  pub few-numbers : i ≤ 256
-  few-numbers = omega (arith, N .index, few-alternatives E)
-
   -- ---- delay
 
-  -- `delay_parts`, which divides by b and by a as by the operands' counts.
   module _ (k : v .kind ≡ 2) where
-    pub delay-numbered : NumberedDelay t v i
-    delay-numbered = record {
-      left = left-expandable E w k;
-      right = right-expandable E w k;
-      few-hops = few-hops E w k;
-      index = rw (← delay-count E w k) (N .index);
-    }
+    left-counted : count-in o (v .p) ≡ length (alternatives-of t (v .p))
+    left-counted = count-known (left-expandable E w k) (left-known E K w k)
+
+    right-counted : count-in o (v .q) ≡ length (alternatives-of t (v .q))
+    right-counted = count-known (right-expandable E w k) (right-known E K w k)
 
     left-some : 0 < length (alternatives-of t (v .p))
     left-some = some-alternatives (left-expandable E w k)
@@ -74,37 +68,32 @@ module _ {t : List ℕ} {n i : ℕ} {v : Node} (N : Numbered t n i) (w : v ≡ n
 
     -- The three digits of the number are below their bases.
     bounds : Digits i (hops-between (v .min) (v .max)) (length (alternatives-of t (v .p))) (length (alternatives-of t (v .q)))
-    bounds = digits-below i _ _ _ left-some right-some (delay-numbered .index)
+    bounds = digits-below i _ _ _ left-some right-some (rw (← delay-count E w k) (N .index))
 
-    module _ {b : ℕ} (q : DividesAlike i b (length (alternatives-of t (v .q)))) where
-      pub rest-numbered : NumberedLeft t v (i / b)
-      rest-numbered =
-          let h = hops-between (v .min) (v .max) in
-          let l = length (alternatives-of t (v .p)) in
-          let r = length (alternatives-of t (v .q)) in
-          record {
-            left = left-expandable E w k;
-            few-hops = few-hops E w k;
-            index = rw (q .quotient) (div-lt-iff-lt-mul {k = r} {x = i} {y = h * l} right-some .1 (omega (arith, delay-numbered .index)));
-          }
+    pub left-operand-known : Known t o (v .p)
+    left-operand-known = left-known E K w k
 
-      module _ {a : ℕ} (p : DividesAlike (i / b) a (length (alternatives-of t (v .p)))) where
-        pub hop-small : v .max < 4294967296 → v .min + i / b / a < 4294967296
-        hop-small z = rw (p .quotient, q .quotient) (hop-fits (v .min) (v .max) _ (well-formed E w .delay-min k) z (bounds .hop))
+    pub right-operand-known : Known t o (v .q)
+    right-operand-known = right-known E K w k
 
-        pub parts-found : {s : Parts} → s ≡ parts-of (v .min) (v .max) i a b → s ≡ delay-parts t n i
-        unfolding delay-parts parts-of
-        parts-found c = c ∙ rw (p .quotient, p .remainder, q .quotient, q .remainder, w) refl
+    pub delay-counts : v .max < 4294967296 → DelayCounted o v i
+    delay-counts z = record {
+      left-inside = inside-outline (left-expandable E w k) (left-known E K w k);
+      right-inside = inside-outline (right-expandable E w k) (right-known E K w k);
+      left-some = rw left-counted left-some;
+      right-some = rw right-counted right-some;
+      hop-small = rw (left-counted, right-counted) (hop-fits (v .min) (v .max) _ (well-formed E w .delay-min k) z (bounds .hop));
+    }
 
   -- The measure falls: 1024 for each node, which is more than the copies that can be left of one.
-  pub left-below : {u : ℕ} → n * 1024 ≡ u → v .kind ≡ 2 → v .p * 1024 < u
+  pub left-below : {u : ℕ} → n * 1024 ≡ u → v .kind ≡ 2 → v .p * 1024 + 1 < u
   left-below e k = omega (arith, well-formed E w .delay-left k)
 
-  pub right-below : {u : ℕ} → n * 1024 ≡ u → v .kind ≡ 2 → v .q * 1024 < u
+  pub right-below : {u : ℕ} → n * 1024 ≡ u → v .kind ≡ 2 → v .q * 1024 + 1 < u
   right-below e k = omega (arith, well-formed E w .delay-right k)
 
   -- Both operands' alternatives are numbered, and the delay's joins them.
-  module _ {s : Parts} (k : v .kind ≡ 2) (c : s ≡ delay-parts t n i) where
+  module _ {s : Parts} (k : v .kind ≡ 2) (c : s ≡ delay-parts o v i) where
     abbrev ls : List SeqAlt
     ls = alternatives-of t (v .p)
 
@@ -113,7 +102,7 @@ module _ {t : List ℕ} {n i : ℕ} {v : Node} (N : Numbered t n i) (w : v ≡ n
 
     apart : s ≡ parts-of (v .min) (v .max) i (length ls) (length rs)
     unfolding delay-parts
-    apart = c ∙ rw w refl
+    apart = c ∙ rw (left-counted k, right-counted k) refl
 
     pub left-numbered : Numbered t (v .p) (s .left)
     unfolding parts-of
@@ -136,11 +125,14 @@ module _ {t : List ℕ} {n i : ℕ} {v : Node} (N : Numbered t n i) (w : v ≡ n
 
   -- ---- throughout: the operand's alternative of the same number, with one guard more
 
-  pub guarded-below : {u : ℕ} → n * 1024 ≡ u → v .kind ≡ 6 → v .q * 1024 < u
+  pub guarded-below : {u : ℕ} → n * 1024 ≡ u → v .kind ≡ 6 → v .q * 1024 + 1 < u
   guarded-below e k = omega (arith, well-formed E w .throughout-under k)
 
   pub guarded-numbered : v .kind ≡ 6 → Numbered t (v .q) i
   guarded-numbered k = record { node = guarded-expandable E w k; index = rw (throughout-count E w k) at (N .index) }
+
+  pub guarded-operand-known : v .kind ≡ 6 → Known t o (v .q)
+  guarded-operand-known k = guarded-known E K w k
 
   pub nth-of-throughout : v .kind ≡ 6
       → let y = nth (alternatives-of t (v .q)) i in nth (alternatives-of t n) i ≡ alternative (y .steps) (and-opt (y .guard) (guard (any (a· (v .p)))))
@@ -160,73 +152,36 @@ module _ (v : Node) (i : ℕ) {b : Bool} (e : b ≡ is-copies v i) (y : b ≡ tr
       let (r, x) = both-hold (repeats v) (sym e ∙ y) in
       record { repetition = repetition v refl r; past = leb-true (empties (v .min)) i x }
 
--- A test of the node's words, and of the same words as they were read.
-module _ (t : List ℕ) (n i : ℕ) {v : Node} (w : v ≡ node-at t n) where
-  pub read-kind : node-at t n .kind ≡ 2 → v .kind ≡ 2
-  read-kind k = rw w k
-
-  pub kind-read : v .kind ≡ 2 → node-at t n .kind ≡ 2
-  kind-read k = rw (← w) k
-
-  pub read-copied : is-copies (node-at t n) i ≡ true → Copied v i
-  read-copied y = rw w (copied (node-at t n) i refl y)
-
-  pub copies-read : {b : Bool} → b ≡ is-copies v i → b ≡ true → is-copies (node-at t n) i ≡ true
-  copies-read e y = rw (← w) (sym e ∙ y)
-
 -- ---- a finite [*], past its Empty
 
-module _ {t : List ℕ} {n i : ℕ} {v : Node} (N : Numbered t n i) (w : v ≡ node-at t n) (R : Copied v i) where
+module _ {t o : List ℕ} {n i : ℕ} {v : Node} (N : Numbered t n i) (K : Known t o n) (w : v ≡ node-at t n) (R : Copied v i) where
   abbrev E′ : Expandable t n
   E′ = N .node
 
   abbrev Q : Repetition v
   Q = R .repetition
 
-  -- What `copies_block` asks of the operand, whose count it has under the name a.
-  pub base-expandable : Expandable t (v .p)
-  base-expandable = copied-expandable E′ w Q
+  base-counted : count-in o (v .p) ≡ length (alternatives-of t (v .p))
+  base-counted = count-known (copied-expandable E′ w Q) (copied-known E′ K w Q)
 
-  pub base-order : v .min ≤ v .max
-  base-order = copies-in-order E′ w Q
+  pub base-known : Known t o (v .p)
+  base-known = copied-known E′ K w Q
 
-  pub base-live : 0 < v .max
-  base-live = Q .live
-
-  pub base-few-copies : v .max ≤ 256
-  base-few-copies = few-copies E′ w Q
-
-  pub past-empty : empties (v .min) ≤ i
-  past-empty = R .past
-
-  -- Where the operand is not counted: the Empties are under the name e.
-  pub past-empties : {e : ℕ} → e ≡ empties (v .min) → e ≤ i
-  past-empties q = rw q (R .past)
-
-  pub first-block-found : {b : Bool} {k e : ℕ} → b ≡ in-first-block (v .min) (v .max) i → b ≡ true → k ≡ v .min - 1
-      → e ≡ empties (v .min) → record { later = k; index = i - e } ≡ copies-block t n i
-  unfolding copies-block
-  first-block-found c y p q =
-      let a = length (alternatives-of t (v .p)) in
-      rw (p, q, ← w) (sym (first-of-blocks a (v .min) (v .max) i (copied-some E′ w Q refl) (sym c ∙ y)))
-
-  module _ {a : ℕ} (p : a ≡ length (alternatives-of t (v .p))) where
-    pub base-some : 0 < a
-    base-some = copied-some E′ w Q p
-
-    pub base-few : a ≤ 256
-    base-few = copied-few E′ w Q p
-
-    pub base-first-few : copies-count a (v .min - 1) ≤ 256
-    base-first-few = first-few E′ w Q p
-
-    pub block-found : {b : Block} → b ≡ block-of a (v .min - 1) (v .max - (v .min - 1) - 1) (i - empties (v .min))
-        → b ≡ copies-block t n i
-    unfolding copies-block
-    block-found g = g ∙ rw (p, w) refl
+  pub copies-counts : CopiesCounted o v i
+  copies-counts = record {
+    inside = inside-outline (copied-expandable E′ w Q) (copied-known E′ K w Q);
+    some = copied-some E′ w Q base-counted;
+    few = copied-few E′ w Q base-counted;
+    order = copies-in-order E′ w Q;
+    live = Q .live;
+    few-copies = few-copies E′ w Q;
+    first-few = first-few E′ w Q base-counted;
+    past-empty = R .past;
+    few-numbers = omega (arith, N .index, few-alternatives E′);
+  }
 
   -- The number stands in the block that was found, and is a number there.
-  module _ {b : Block} (g : b ≡ copies-block t n i) where
+  module _ {b : Block} (g : b ≡ copies-block o v i) where
     abbrev base : List SeqAlt
     base = alternatives-of t (v .p)
 
@@ -237,7 +192,7 @@ module _ {t : List ℕ} {n i : ℕ} {v : Node} (N : Numbered t n i) (w : v ≡ n
     j = i - empties (v .min)
 
     blocks : v .max - (v .min - 1) ≡ suc more
-    blocks = omega (arith, base-live, base-order)
+    blocks = omega (arith, Q .live, copies-in-order E′ w Q)
 
     in-blocks : nth (alternatives-of t n) i ≡ nth (copies-from base (v .min - 1) (suc more)) j
     in-blocks =
@@ -251,15 +206,15 @@ module _ {t : List ℕ} {n i : ℕ} {v : Node} (N : Numbered t n i) (w : v ≡ n
         let l : j < copies-from-count (length base) (v .min - 1) (v .max - (v .min - 1)) =
         omega (arith, N .index, repeated-count E′ w Q refl, R .past) in
         let there = nth-block base (v .min - 1) more j (rw (length-copies-from base (v .min - 1) (suc more), ← blocks) l) in
-        let few : block-of (length base) (v .min - 1) more j .later ≤ 256 = omega (arith, there .few, base-few-copies, base-order, base-live) in
-        rw (g, ← w) (record { same = in-blocks ∙ there .same; index = there .index; few = few })
+        let few : block-of (length base) (v .min - 1) more j .later ≤ 256 = omega (arith, there .few, few-copies E′ w Q, copies-in-order E′ w Q, Q .live) in
+        rw (g, base-counted) (record { same = in-blocks ∙ there .same; index = there .index; few = few })
 
-    pub block-below : {u : ℕ} → n * 1024 ≡ u → v .p * 1024 + (b .later + 1) < u
+    pub block-below : {u : ℕ} → n * 1024 ≡ u → v .p * 1024 + (b .later + 2) < u
     block-below e = omega (arith, well-formed E′ w .consec-under (Q .kind), found .few)
 
     pub block-numbered : NumberedCopies t (v .p) (b .later) (b .index)
     unfolding copies-of
-    block-numbered = record { node = base-expandable; few = found .few; index = found .index }
+    block-numbered = record { node = copied-expandable E′ w Q; few = found .few; index = found .index }
 
     pub nth-of-block : nth (alternatives-of t n) i ≡ nth (copies-of (alternatives-of t (v .p)) (b .later)) (b .index)
     unfolding copies-of
@@ -267,8 +222,8 @@ module _ {t : List ℕ} {n i : ℕ} {v : Node} (N : Numbered t n i) (w : v ≡ n
 
 -- ---- k + 1 copies: one, or the earlier ones and the last
 
-module _ {t : List ℕ} {n k i : ℕ} (C : NumberedCopies t n k i) where
-  pub only-below : {u : ℕ} → n * 1024 + (k + 1) ≡ u → n * 1024 < u
+module _ {t o : List ℕ} {n k i : ℕ} (C : NumberedCopies t n k i) (K : Known t o n) where
+  pub only-below : {u : ℕ} → n * 1024 + (k + 2) ≡ u → n * 1024 + 1 < u
   only-below e = omega arith
 
   pub only-numbered : k ≡ 0 → Numbered t n i
@@ -279,18 +234,24 @@ module _ {t : List ℕ} {n k i : ℕ} (C : NumberedCopies t n k i) where
   unfolding copies-of
   nth-of-only e = rw e refl
 
-  pub copy-expandable : Expandable t n
-  copy-expandable = C .node
+  some : 0 < length (alternatives-of t n)
+  some = some-alternatives (C .node)
+
+  pub copy-inside : n < length o
+  copy-inside = inside-outline (C .node) K
+
+  pub copy-some : 0 < count-in o n
+  copy-some = rw (count-known (C .node) K) some
 
   -- `repeated`, which has the two numbers under the name s.
-  module _ {s : CopyDigits} (z : k ≡ 0 → ⊥) (e : s ≡ digits-of (length (alternatives-of t n)) i) where
-    some : 0 < length (alternatives-of t n)
-    some = some-alternatives (C .node)
+  module _ {s : CopyDigits} (z : k ≡ 0 → ⊥) (d : s ≡ digits-of (count-in o n) i) where
+    e : s ≡ digits-of (length (alternatives-of t n)) i
+    e = d ∙ rw (count-known (C .node) K) refl
 
     one-more : k ≡ suc (k - 1)
     one-more = omega arith
 
-    pub earlier-below : {u : ℕ} → n * 1024 + (k + 1) ≡ u → n * 1024 + (k - 1 + 1) < u
+    pub earlier-below : {u : ℕ} → n * 1024 + (k + 2) ≡ u → n * 1024 + (k - 1 + 2) < u
     earlier-below x = omega arith
 
     numbered : i < length (copies (alternatives-of t n) (suc (k - 1)))
@@ -316,3 +277,22 @@ module _ {t : List ℕ} {n k i : ℕ} (C : NumberedCopies t n k i) where
         ap (λ (m : ℕ). nth (copies (alternatives-of t n) m) i) one-more
         ∙ nth-copies (alternatives-of t n) (k - 1) i some numbered
         ∙ rw e refl
+
+-- The node's own word can be read.
+pub node-inside : {t o : List ℕ} {n i : ℕ} → Numbered t n i → Known t o n → n < length o
+node-inside N K = inside-outline (N .node) K
+
+-- ---- [*1]: the node that is left without it, which `alternative` has under the name m
+
+module _ {t o : List ℕ} {n i m : ℕ} (N : Numbered t n i) (K : Known t o n) (e : m ≡ bare-in o n) where
+  pub bare-below : {u : ℕ} → n * 1024 + 1 ≡ u → m * 1024 < u
+  bare-below x = omega (arith, bare-found (N .node) K e .lower)
+
+  pub bare-numbered : Numbered t m i
+  bare-numbered = let B = bare-found (N .node) K e in record { node = B .node; index = rw (B .same) (N .index) }
+
+  pub bare-node-known : Known t o m
+  bare-node-known = bare-found (N .node) K e .known
+
+  pub same-alternatives : alternatives-of t m ≡ alternatives-of t n
+  same-alternatives = bare-found (N .node) K e .same

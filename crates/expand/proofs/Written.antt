@@ -19,10 +19,11 @@ use Rattle.meaning.specs.Alternative.{SeqAlt, step, single, rehop, joined, expa
 use Rattle.expand.specs.declared.Parts.{Parts}
 use Rattle.expand.specs.declared.Block.{Block}
 use Rattle.expand.specs.declared.CopyDigits.{CopyDigits}
-use Rattle.expand.specs.ByNumber.{alternatives-of, copies-of, nth, alternative-words, is-copies, single-term, delay-parts, copies-block, digits-of, Numbered, NumberedCopies}
+use Rattle.expand.specs.ByNumber.{alternatives-of, copies-of, nth, alternative-words, is-copies, single-term, digits-of, Numbered, NumberedCopies}
+use Rattle.expand.specs.Outline.{count-in, bare-in, delay-parts, copies-block, Known}
 use Rattle.expand.proofs.Every.{has-step, each-expanded, each-copies, each-nth}
 use Rattle.expand.proofs.ByKind.{single-alternative}
-use Rattle.expand.proofs.Numbers.{Copied, nth-of-delay, nth-of-throughout, nth-of-block, nth-of-only, nth-of-copies}
+use Rattle.expand.proofs.Numbers.{Copied, nth-of-delay, nth-of-throughout, nth-of-block, nth-of-only, nth-of-copies, same-alternatives}
 
 -- ---- steps one after the other
 
@@ -79,9 +80,20 @@ node-words t n h i = alternative-words h (alternatives-of t n) i
 abbrev copies-words : List ℕ → ℕ → ℕ → SeqHop → ℕ → List ℕ
 copies-words t n k h i = alternative-words h (copies-of (alternatives-of t n) k) i
 
-module _ {t : List ℕ} {n i : ℕ} {v : Node} (h : SeqHop) (o : List ℕ) (at : ℕ) (N : Numbered t n i) (room : at + length (node-words t n h i) ≤ length o) (w : v ≡ node-at t n) where
+-- [*1], passed at one stroke
+module _ {t q : List ℕ} {n i m : ℕ} (h : SeqHop) (o : List ℕ) (at : ℕ) (N : Numbered t n i) (K : Known t q n) (e : m ≡ bare-in q n) where
+  bare-words : node-words t m h i ≡ node-words t n h i
+  bare-words = rw (same-alternatives N K e) refl
+
+  pub bare-room : at + length (node-words t n h i) ≤ length o → at + length (node-words t m h i) ≤ length o
+  bare-room room = rw bare-words room
+
+  pub bare-written : {o₁ : List ℕ} {z : ℕ} → Wrote o o₁ at z (node-words t m h i) → Wrote o o₁ at z (node-words t n h i)
+  bare-written x = same-words bare-words x
+
+module _ {t q : List ℕ} {n i : ℕ} {v : Node} (h : SeqHop) (o : List ℕ) (at : ℕ) (N : Numbered t n i) (K : Known t q n) (room : at + length (node-words t n h i) ≤ length o) (w : v ≡ node-at t n) where
   -- delay
-  module _ {s : Parts} (k : v .kind ≡ 2) (c : s ≡ delay-parts t n i) where
+  module _ {s : Parts} (k : v .kind ≡ 2) (c : s ≡ delay-parts q v i) where
     abbrev left : List ℕ
     left = node-words t (v .p) h (s .left)
 
@@ -91,7 +103,7 @@ module _ {t : List ℕ} {n i : ℕ} {v : Node} (h : SeqHop) (o : List ℕ) (at :
     delay-words : node-words t n h i ≡ left ++ right
     delay-words =
         words-of-two h (s .hop) (alternatives-of t n) (alternatives-of t (v .p)) (alternatives-of t (v .q)) i (s .left) (s .right)
-        (nth-of-delay N w k c) (some-steps t (v .p) (s .left))
+        (nth-of-delay N K w k c) (some-steps t (v .p) (s .left))
 
     pub left-room : at + length (node-words t (v .p) h (s .left)) ≤ length o
     left-room = first-room at left right delay-words room
@@ -108,7 +120,7 @@ module _ {t : List ℕ} {n i : ℕ} {v : Node} (h : SeqHop) (o : List ℕ) (at :
   module _ (k : v .kind ≡ 6) where
     throughout-words : node-words t n h i ≡ node-words t (v .q) h i
     throughout-words =
-        words-of h (alternatives-of t n) (alternatives-of t (v .q)) i i (ap (λ (y : SeqAlt). y .steps) (nth-of-throughout N w k))
+        words-of h (alternatives-of t n) (alternatives-of t (v .q)) i i (ap (λ (y : SeqAlt). y .steps) (nth-of-throughout N K w k))
 
     pub guarded-room : at + length (node-words t (v .q) h i) ≤ length o
     guarded-room = rw throughout-words at room
@@ -118,11 +130,11 @@ module _ {t : List ℕ} {n i : ℕ} {v : Node} (h : SeqHop) (o : List ℕ) (at :
     throughout-written x = same-words (sym throughout-words) x
 
   -- copies
-  module _ (R : Copied v i) {b : Block} (g : b ≡ copies-block t n i) where
+  module _ (R : Copied v i) {b : Block} (g : b ≡ copies-block q v i) where
     block-words : node-words t n h i ≡ copies-words t (v .p) (b .later) h (b .index)
     block-words =
         words-of h (alternatives-of t n) (copies-of (alternatives-of t (v .p)) (b .later)) i (b .index)
-        (ap (λ (y : SeqAlt). y .steps) (nth-of-block N w R g))
+        (ap (λ (y : SeqAlt). y .steps) (nth-of-block N K w R g))
 
     pub block-room : at + length (copies-words t (v .p) (b .later) h (b .index)) ≤ length o
     block-room = rw block-words at room
@@ -144,11 +156,11 @@ module _ {t : List ℕ} {n i : ℕ} {v : Node} (h : SeqHop) (o : List ℕ) (at :
         → Wrote o o₁ at z (step-words s) → Wrote o o₁ at z (node-words t n h i)
     single-written {s = s} e f y = same-words (sym (single-words s e f)) y
 
-module _ {t : List ℕ} {n k i : ℕ} (h : SeqHop) (o : List ℕ) (at : ℕ) (C : NumberedCopies t n k i) (room : at + length (copies-words t n k h i) ≤ length o) where
+module _ {t q : List ℕ} {n k i : ℕ} (h : SeqHop) (o : List ℕ) (at : ℕ) (C : NumberedCopies t n k i) (K : Known t q n) (room : at + length (copies-words t n k h i) ≤ length o) where
   -- one copy
   only-words : k ≡ 0 → copies-words t n k h i ≡ node-words t n h i
   only-words e =
-      words-of h (copies-of (alternatives-of t n) k) (alternatives-of t n) i i (ap (λ (y : SeqAlt). y .steps) (nth-of-only C e))
+      words-of h (copies-of (alternatives-of t n) k) (alternatives-of t n) i i (ap (λ (y : SeqAlt). y .steps) (nth-of-only C K e))
 
   pub only-room : k ≡ 0 → at + length (node-words t n h i) ≤ length o
   only-room e = rw (only-words e) at room
@@ -157,7 +169,7 @@ module _ {t : List ℕ} {n k i : ℕ} (h : SeqHop) (o : List ℕ) (at : ℕ) (C 
   only-written e x = same-words (sym (only-words e)) x
 
   -- the earlier copies, then the last
-  module _ {s : CopyDigits} (m : k ≡ 0 → ⊥) (e : s ≡ digits-of (length (alternatives-of t n)) i) where
+  module _ {s : CopyDigits} (m : k ≡ 0 → ⊥) (e : s ≡ digits-of (count-in q n) i) where
     abbrev earlier : List ℕ
     earlier = copies-words t n (k - 1) h (s .earlier)
 
@@ -167,7 +179,7 @@ module _ {t : List ℕ} {n k i : ℕ} (h : SeqHop) (o : List ℕ) (at : ℕ) (C 
     all-words : copies-words t n k h i ≡ earlier ++ last-copy
     all-words =
         words-of-two h (Fixed 1) (copies-of (alternatives-of t n) k) (copies-of (alternatives-of t n) (k - 1))
-        (alternatives-of t n) i (s .earlier) (s .last) (nth-of-copies C m e) (some-copied-steps t n (k - 1) (s .earlier))
+        (alternatives-of t n) i (s .earlier) (s .last) (nth-of-copies C K m e) (some-copied-steps t n (k - 1) (s .earlier))
 
     pub earlier-room : at + length (copies-words t n (k - 1) h (s .earlier)) ≤ length o
     earlier-room = first-room at earlier last-copy all-words room

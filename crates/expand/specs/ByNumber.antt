@@ -1,7 +1,7 @@
 -- Alternatives by number: how the number of an alternative says which of its operands' alternatives it is made of, and the
 -- words that the steps of one alternative are kept as.
 -- Example: `a[*1:2] ##[3:4] b` has four. Number 3 is the second hop, 4, between the second left and the only right: a a b.
-use mathlib.Core.Bool.{Bool, true, false}
+use mathlib.Core.Bool.{Bool, false}
 use mathlib.Core.Path.{_≡_}
 use mathlib.Core.List.{List}
 use Prim.Native.Nat.{ℕ, zero, suc, _+_, _*_, _-_, _<_, _≤_, _/_, _%_}
@@ -95,29 +95,9 @@ single-term t v i =
     (Nonconsec (node-at t (v .p) .p) (v .min))
     (pick (ltb i (empties (v .min))) Empty (ConsecAtLeast (node-at t (v .p) .p) (v .min - 1 + 1)))))
 
--- What alternative i of the delay n is made of.
-unfoldable pub delay-parts : List ℕ → ℕ → ℕ → Parts
-delay-parts t n i =
-    let v = node-at t n in parts-of (v .min) (v .max) i (length (alternatives-of t (v .p))) (length (alternatives-of t (v .q)))
-
--- Where alternative i of the repetition n stands, past its Empty.
-unfoldable pub copies-block : List ℕ → ℕ → ℕ → Block
-copies-block t n i =
-    let v = node-at t n in block-of (length (alternatives-of t (v .p))) (v .min - 1) (v .max - (v .min - 1) - 1) (i - empties (v .min))
-
--- No block follows the first of a finite [*min:max], or number i is the first in it: so that number i stands there.
-unfoldable pub in-first-block : ℕ → ℕ → ℕ → Bool
-in-first-block min max i = pick (eqb (max - (min - 1)) 1) true (eqb i (empties min))
-
 -- "earlier copies vary slowest": alternative i of several copies of an operand that has a.
 unfoldable pub digits-of : ℕ → ℕ → CopyDigits
 digits-of a i = record { earlier = i / a; last = i % a }
-
--- Dividing i by r gives what dividing it by the count b gives: r is b, or both are above i.
-pub record DividesAlike (i r b : ℕ) : Type 0 where
-  pub some : 0 < r
-  pub quotient : i / r ≡ i / b
-  pub remainder : i % r ≡ i % b
 
 -- The operand of a node of another kind than 1 can be read.
 pub record OperandInside (t : List ℕ) (v : Node) : Type 0 where
@@ -141,16 +121,3 @@ pub record NumberedCopies (t : List ℕ) (n k i : ℕ) : Type 0 where
   pub node : Expandable t n
   pub few : k ≤ 256
   pub index : i < length (copies-of (alternatives-of t n) k)
-
--- The number of an alternative of the delay v, whose operands are such nodes ..
-pub record NumberedDelay (t : List ℕ) (v : Node) (i : ℕ) : Type 0 where
-  pub left : Expandable t (v .p)
-  pub right : Expandable t (v .q)
-  pub few-hops : hops-between (v .min) (v .max) ≤ 256
-  pub index : i < hops-between (v .min) (v .max) * (length (alternatives-of t (v .p)) * length (alternatives-of t (v .q)))
-
--- .. and what is left of it without the right's digit: those of the hop and of the left.
-pub record NumberedLeft (t : List ℕ) (v : Node) (rest : ℕ) : Type 0 where
-  pub left : Expandable t (v .p)
-  pub few-hops : hops-between (v .min) (v .max) ≤ 256
-  pub index : rest < hops-between (v .min) (v .max) * length (alternatives-of t (v .p))

@@ -1,14 +1,18 @@
 // The i-th alternative of a node, written into lent work. Alternatives are numbered and never stored: the number alone says
-// which alternatives of the operands it is made of, so that a recursion on the node number writes its steps in order.
+// which alternatives of the operands it is made of, so that a recursion on the node number writes its steps in order. How many
+// alternatives each operand has is found once for a tree and kept in its outline.
 //
 // Example: alternative 3 of `a[*1:2] ##[3:4] b` is Bool(a), Bool(a) after Fixed(1), Bool(b) after Fixed(4).
 ghost use mathlib.Core.Path.{_≡_};
-ghost use mathlib.Core.Bool.{true};
+ghost use mathlib.Core.List.{[], _∷_};
 ghost use Prim.Native.Nat.{_+_, _*_, _-_, _/_, _≤_, _<_};
+ghost use lib.Dec.{eqb};
 ghost use lib.ListN.{length};
-ghost use Rattle.words.specs.Written.{Wrote};
-ghost use Rattle.meaning.specs.Tree.{node-at};
-ghost use Rattle.expand.specs.ByNumber.{alternatives-of, copies-of, alternative-words, hops-between, hop-at, parts-of, copies-count, copies-from-count, block-of, empties, repeats, is-copies, single-count, single-term, delay-parts, copies-block, in-first-block, digits-of, DividesAlike, OperandInside, Expandable, NumberedDelay, NumberedLeft, Numbered, NumberedCopies};
+ghost use Rattle.words.specs.Choice.{pick};
+ghost use Rattle.words.specs.Written.{written, Wrote};
+ghost use Rattle.meaning.specs.Tree.{finite, tree-at, nodes};
+ghost use Rattle.expand.specs.Outline.{is-once, count-in, bare-in, flag-in, delay-parts, copies-block, DelayCounted, CopiesCounted, outlined, Known};
+ghost use Rattle.expand.specs.ByNumber.{alternatives-of, copies-of, alternative-words, hops-between, hop-at, parts-of, copies-count, copies-from-count, block-of, empties, repeats, is-copies, single-count, single-term, digits-of, OperandInside, Expandable, Numbered, NumberedCopies};
 
 // What an alternative of a delay is made of: its hop, and the numbers of the left's and the right's alternative.
 pub struct Parts {
@@ -28,9 +32,6 @@ pub struct CopyDigits {
     pub earlier: u32,
     pub last: u32,
 }
-
-// 10: no node that the walk let pass has more alternatives, so that a number below a count is below this.
-const MOST: u32 = 256;
 
 // How many hops a delay has.
 fn hop_count(min: u32, max: u32) -> u32
@@ -209,117 +210,123 @@ fn count_singles(v: meaning::Node) -> u32
     1
 }
 
-// How many alternatives node n has.
-pub fn alternatives(t: &[u32], n: u32) -> u32
-    requires { ⌜ Expandable (now t) n ⌝ }
+// How many alternatives node n has, by the outline.
+pub fn count_of(outline: &[u32], n: u32) -> u32
+    requires { ⌜ n < length (now outline) ⌝ }
+    ensures { λ r. ⌜ r ≡ count-in (now (outline .entry)) n ⌝ }
+{
+    outline[n as usize] % 512
+}
+
+// The node that is left of node n without the [*1] over it, by the outline.
+pub fn bare_of(outline: &[u32], n: u32) -> u32
+    requires { ⌜ n < length (now outline) ⌝ }
+    ensures { λ r. ⌜ r ≡ bare-in (now (outline .entry)) n ⌝ }
+{
+    outline[n as usize] / 512 % 4096
+}
+
+// 1 where one of node n's alternatives has a guard, else 0, by the outline.
+pub fn flag_of(outline: &[u32], n: u32) -> u32
+    requires { ⌜ n < length (now outline) ⌝ }
+    ensures { λ r. ⌜ r ≡ flag-in (now (outline .entry)) n ⌝ }
+{
+    outline[n as usize] / 2097152
+}
+
+// What is left of the finite repetition n: of a [*1], what is left of its operand.
+fn bare_copies(outline: &[u32], v: meaning::Node, n: u32) -> u32
+    requires { ⌜ v .p < length (now outline) ⌝ }
+    ensures { λ r. ⌜ r ≡ pick (is-once (v .min) (finite (v .max))) (bare-in (now (outline .entry)) (v .p)) n ⌝ }
+{
+    if v.min == 1 {
+        if v.max == 1 {
+            return bare_of(outline, v.p);
+        }
+    }
+    n
+}
+
+// 1 where one of two operands' alternatives has a guard.
+fn either_flag(outline: &[u32], p: u32, q: u32) -> u32
+    requires { ⌜ (p < length (now outline)) × (q < length (now outline)) ⌝ }
+    ensures { λ r. ⌜ r ≡ pick (eqb (flag-in (now (outline .entry)) p) 1) 1 (flag-in (now (outline .entry)) q) ⌝ }
+{
+    if flag_of(outline, p) == 1 {
+        return 1;
+    }
+    flag_of(outline, q)
+}
+
+// Puts the word of node n; the count in it.
+fn note(outline: &mut [u32], n: u32, count: u32, bare: u32, flag: u32) -> u32
+    requires { ⌜ (n < length (now outline)) × (count ≤ 256) × (bare < 4096) × (flag ≤ 1) ⌝ }
+    ensures { λ r. ⌜ r ≡ count ⌝ }
+    ensures kept { λ _. ⌜ now (outline .exit) ≡ written (now (outline .entry)) n ((count + 512 * (bare + 4096 * flag)) ∷ []) ⌝ }
+{
+    words::put(outline, n as usize, count + 512 * (bare + 4096 * flag));
+    count
+}
+
+// Puts into the outline the words of node n and of every node visited below; how many alternatives node n has.
+pub fn put_outline(t: &[u32], n: u32, outline: &mut [u32]) -> u32
+    requires { ⌜ Expandable (now t) n × (nodes (now t) ≤ length (now outline)) ⌝ }
     ensures { λ r. ⌜ r ≡ length (alternatives-of (now (t .entry)) n) ⌝ }
+    ensures kept { λ _. ⌜ now (outline .exit) ≡ outlined (tree-at (now (t .entry)) n) (now (outline .entry)) ⌝ }
 {
     let v = tree::read(t, n);
     if v.kind == 2 {
-        let a = alternatives(t, v.p);
-        let b = alternatives(t, v.q);
-        return product(hop_count(v.min, v.max), a, b);
+        let a = put_outline(t, v.p, outline);
+        let b = put_outline(t, v.q, outline);
+        let c = product(hop_count(v.min, v.max), a, b);
+        let f = either_flag(outline, v.p, v.q);
+        return note(outline, n, c, n, f);
     }
     if v.kind == 6 {
-        return alternatives(t, v.q);
+        let a = put_outline(t, v.q, outline);
+        return note(outline, n, a, n, 1);
     }
     if has_copies(v) {
-        let a = alternatives(t, v.p);
-        return count_repeated(v.min, v.max, a);
+        let a = put_outline(t, v.p, outline);
+        let b = bare_copies(outline, v, n);
+        let f = flag_of(outline, v.p);
+        return note(outline, n, count_repeated(v.min, v.max, a), b, f);
     }
-    count_singles(v)
+    note(outline, n, count_singles(v), n, 0)
 }
 
-// Whether the left is worth counting before the right: it is surely the smaller one, or none of its operands is counted.
-// Speed alone hangs on it.
-fn left_first(t: &[u32], v: meaning::Node) -> bool
-    requires { ⌜ Expandable (now t) (v .p) ⌝ }
-{
-    if v.p < v.q / 2 {
-        return true;
-    }
-    let left = tree::read(t, v.p);
-    if left.kind < 4 {
-        return left.kind == 1;
-    }
-    left.kind < 6
-}
-
-// What divides i as the right's count does. The right is not counted where i is surely below its count: i is 0, or one hop
-// and one left alternative leave i to the right alone.
-fn right_radix(t: &[u32], v: meaning::Node, i: u32) -> u32
-    requires { ⌜ NumberedDelay (now t) v i ⌝ }
-    ensures { λ r. ⌜ DividesAlike i r (length (alternatives-of (now (t .entry)) (v .q))) ⌝ }
+// What alternative i of the delay v is made of. Number 0 is made of those of number 0, which needs no division: what has one
+// alternative is passed quickly.
+pub fn delay_parts(outline: &[u32], v: meaning::Node, i: u32) -> Parts
+    requires { ⌜ DelayCounted (now outline) v i ⌝ }
+    ensures { λ r. ⌜ r ≡ delay-parts (now (outline .entry)) v i ⌝ }
 {
     if i == 0 {
-        return MOST;
+        let h = kth_hop(v.min, v.max, 0);
+        return Parts {
+            hop: h,
+            left: 0,
+            right: 0,
+        };
     }
-    if hop_count(v.min, v.max) == 1 {
-        if left_first(t, v) {
-            if alternatives(t, v.p) == 1 {
-                return MOST;
-            }
-        }
-    }
-    alternatives(t, v.q)
-}
-
-// What divides the rest as the left's count does. With one hop, the rest is the left's alone.
-fn left_radix(t: &[u32], v: meaning::Node, rest: u32) -> u32
-    requires { ⌜ NumberedLeft (now t) v rest ⌝ }
-    ensures { λ r. ⌜ DividesAlike rest r (length (alternatives-of (now (t .entry)) (v .p))) ⌝ }
-{
-    if rest == 0 {
-        return MOST;
-    }
-    if hop_count(v.min, v.max) == 1 {
-        return MOST;
-    }
-    alternatives(t, v.p)
-}
-
-// What alternative i of the delay n is made of.
-pub fn delay_parts(t: &[u32], n: u32, i: u32) -> Parts
-    requires { ⌜ Numbered (now t) n i × (node-at (now t) n .kind ≡ 2) ⌝ }
-    ensures { λ r. ⌜ r ≡ delay-parts (now (t .entry)) n i ⌝ }
-{
-    let v = tree::read(t, n);
-    let b = right_radix(t, v, i);
-    let a = left_radix(t, v, i / b);
+    let a = count_of(outline, v.p);
+    let b = count_of(outline, v.q);
     take_apart(v.min, v.max, i, a, b)
 }
 
-// Whether alternative i of a repetition is of its first block whatever the operand's count: no other follows, or i is the first.
-fn is_in_first_block(min: u32, max: u32, i: u32) -> bool
-    requires { ⌜ min ≤ max ⌝ }
-    ensures { λ r. ⌜ r ≡ in-first-block min max i ⌝ }
+// Where alternative i of the repetition v stands, past its Empty.
+pub fn copies_block(outline: &[u32], v: meaning::Node, i: u32) -> Block
+    requires { ⌜ CopiesCounted (now outline) v i ⌝ }
+    ensures { λ r. ⌜ r ≡ copies-block (now (outline .entry)) v i ⌝ }
 {
-    if max - one_less(min) == 1 {
-        return true;
-    }
-    i == empty_count(min)
-}
-
-// Where alternative i of the repetition n stands, past its Empty.
-pub fn copies_block(t: &[u32], n: u32, i: u32) -> Block
-    requires { ⌜ Numbered (now t) n i × (is-copies (node-at (now t) n) i ≡ true) ⌝ }
-    ensures { λ r. ⌜ r ≡ copies-block (now (t .entry)) n i ⌝ }
-{
-    let v = tree::read(t, n);
-    if is_in_first_block(v.min, v.max, i) {
-        return Block {
-            later: one_less(v.min),
-            index: i - empty_count(v.min),
-        };
-    }
-    let a = alternatives(t, v.p);
+    let a = count_of(outline, v.p);
     place(v.min, v.max, a, i)
 }
 
-// What alternative i of several copies of node n is made of. Number 0 is made of those of number 0, and nothing is counted.
-pub fn copy_digits(t: &[u32], n: u32, i: u32) -> CopyDigits
-    requires { ⌜ Expandable (now t) n ⌝ }
-    ensures { λ r. ⌜ r ≡ digits-of (length (alternatives-of (now (t .entry)) n)) i ⌝ }
+// What alternative i of several copies of node n is made of.
+pub fn copy_digits(outline: &[u32], n: u32, i: u32) -> CopyDigits
+    requires { ⌜ (n < length (now outline)) × (0 < count-in (now outline) n) ⌝ }
+    ensures { λ r. ⌜ r ≡ digits-of (count-in (now (outline .entry)) n) i ⌝ }
 {
     if i == 0 {
         return CopyDigits {
@@ -327,7 +334,7 @@ pub fn copy_digits(t: &[u32], n: u32, i: u32) -> CopyDigits
             last: 0,
         };
     }
-    let a = alternatives(t, n);
+    let a = count_of(outline, n);
     CopyDigits {
         earlier: i / a,
         last: i % a,
@@ -356,31 +363,48 @@ fn single_term(t: &[u32], v: meaning::Node, i: u32) -> meaning::SeqTerm
 }
 
 // Puts the steps of alternative i of node n from the place on, the first reached by h; the next place.
-// The hop is handed down: the left operand takes h, the right one the delay's own, so that nothing is patched.
 pub fn alternative(
     t: &[u32],
+    outline: &[u32],
     n: u32,
     i: u32,
     h: meaning::SeqHop,
     work: &mut [u32],
     at: usize,
 ) -> usize
-    requires { ⌜ Numbered (now t) n i × (at + length (alternative-words h (alternatives-of (now t) n) i) ≤ length (now work)) ⌝ }
+    requires { ⌜ Numbered (now t) n i × Known (now t) (now outline) n × (at + length (alternative-words h (alternatives-of (now t) n) i) ≤ length (now work)) ⌝ }
+    ensures { λ next. ⌜ Wrote (now (work .entry)) (now (work .exit)) at next (alternative-words h (alternatives-of (now (t .entry)) n) i) ⌝ }
+{
+    bare_alternative(t, outline, bare_of(outline, n), i, h, work, at)
+}
+
+// The same of a node that is no [*1].
+// The hop is handed down: the left operand takes h, the right one the delay's own, so that nothing is patched.
+fn bare_alternative(
+    t: &[u32],
+    outline: &[u32],
+    n: u32,
+    i: u32,
+    h: meaning::SeqHop,
+    work: &mut [u32],
+    at: usize,
+) -> usize
+    requires { ⌜ Numbered (now t) n i × Known (now t) (now outline) n × (at + length (alternative-words h (alternatives-of (now t) n) i) ≤ length (now work)) ⌝ }
     ensures { λ next. ⌜ Wrote (now (work .entry)) (now (work .exit)) at next (alternative-words h (alternatives-of (now (t .entry)) n) i) ⌝ }
 {
     let v = tree::read(t, n);
     if v.kind == 2 {
-        let s = delay_parts(t, n, i);
+        let s = delay_parts(outline, v, i);
         let k = s.hop;
-        let w = alternative(t, v.p, s.left, h, work, at);
-        return alternative(t, v.q, s.right, k, work, w);
+        let w = alternative(t, outline, v.p, s.left, h, work, at);
+        return alternative(t, outline, v.q, s.right, k, work, w);
     }
     if v.kind == 6 {
-        return alternative(t, v.q, i, h, work, at);
+        return alternative(t, outline, v.q, i, h, work, at);
     }
     if made_of_copies(v, i) {
-        let s = copies_block(t, n, i);
-        return repeated(t, v.p, s.later, s.index, h, work, at);
+        let s = copies_block(outline, v, i);
+        return repeated(t, outline, v.p, s.later, s.index, h, work, at);
     }
     let x = single_term(t, v, i);
     let s = meaning::SeqStep { term: x, hop: h };
@@ -390,6 +414,7 @@ pub fn alternative(
 // The same of k + 1 copies of node n: earlier copies vary slowest, and each after the first is reached by Fixed(1).
 fn repeated(
     t: &[u32],
+    outline: &[u32],
     n: u32,
     k: u32,
     i: u32,
@@ -397,13 +422,13 @@ fn repeated(
     work: &mut [u32],
     at: usize,
 ) -> usize
-    requires { ⌜ NumberedCopies (now t) n k i × (at + length (alternative-words h (copies-of (alternatives-of (now t) n) k) i) ≤ length (now work)) ⌝ }
+    requires { ⌜ NumberedCopies (now t) n k i × Known (now t) (now outline) n × (at + length (alternative-words h (copies-of (alternatives-of (now t) n) k) i) ≤ length (now work)) ⌝ }
     ensures { λ next. ⌜ Wrote (now (work .entry)) (now (work .exit)) at next (alternative-words h (copies-of (alternatives-of (now (t .entry)) n) k) i) ⌝ }
 {
     if k == 0 {
-        return alternative(t, n, i, h, work, at);
+        return alternative(t, outline, n, i, h, work, at);
     }
-    let s = copy_digits(t, n, i);
-    let w = repeated(t, n, k - 1, s.earlier, h, work, at);
-    alternative(t, n, s.last, meaning::SeqHop::Fixed(1), work, w)
+    let s = copy_digits(outline, n, i);
+    let w = repeated(t, outline, n, k - 1, s.earlier, h, work, at);
+    alternative(t, outline, n, s.last, meaning::SeqHop::Fixed(1), work, w)
 }

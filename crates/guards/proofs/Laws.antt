@@ -1,28 +1,32 @@
--- The words of a guard, as `guard_text`, `repeated_guard` and `guard_words` put them: of two guards, one after the other, and
+-- The words of a guard, as `bare_guard`, `repeated_guard` and `guard_words` put them: of two guards, one after the other, and
 -- an `and` where both wrote something.
 use mathlib.Core.Path.{_≡_, refl, sym, ap, _∙_}
-use mathlib.Core.Bool.{Bool, false}
+use mathlib.Core.Bool.{Bool, true, false}
 use mathlib.Core.List.{List, [], _∷_, _++_, append-nil}
-use Prim.Native.Nat.{ℕ, _+_, _-_, _<_, _≤_}
+use Prim.Native.Nat.{ℕ, zero, suc, _+_, _-_, _<_, _≤_}
 use native.Mathlib.Omega.{arith}
 use lib.ListN.{length, length-append}
 use borrow.Author.Tests.{eq-eqb, ne-eqb}
-use Rattle.words.specs.Choice.{pick-true, pick-false}
+use Rattle.words.specs.Choice.{pick, pick-true, pick-false}
 use Rattle.words.specs.Written.{Wrote}
+use Rattle.words.proofs.Taken.{false-is-not-true}
 use Rattle.words.proofs.Laws.{still-long, begin, go, nothing-written, last, same-words}
 use Rattle.term.specs.Guards.{guard-words}
 use Rattle.meaning.specs.declared.Node.{Node}
-use Rattle.meaning.specs.Tree.{node-at}
+use Rattle.meaning.specs.Tree.{node-at, tree-at}
 use Rattle.meaning.specs.Expression.{a·, any}
 use Rattle.meaning.specs.Listing.{word, expression-words}
-use Rattle.meaning.specs.Alternative.{Guard, unguarded, guard, and-opt, SeqAlt}
+use Rattle.meaning.specs.Alternative.{Guard, unguarded, guard, and-opt, SeqAlt, expand}
+use Rattle.meaning.specs.Refusals.{has-guard, guarded}
 use Rattle.meaning.proofs.Emitted.{some-words}
 use Rattle.expand.specs.declared.Parts.{Parts}
 use Rattle.expand.specs.declared.Block.{Block}
 use Rattle.expand.specs.declared.CopyDigits.{CopyDigits}
-use Rattle.expand.specs.ByNumber.{alternatives-of, copies-of, nth, is-copies, delay-parts, copies-block, digits-of, Numbered, NumberedCopies}
+use Rattle.expand.specs.ByNumber.{alternatives-of, copies-of, nth, is-copies, digits-of, Numbered, NumberedCopies}
+use Rattle.expand.specs.Outline.{guard-flag, count-in, bare-in, flag-in, delay-parts, copies-block, Known}
+use Rattle.expand.proofs.Outlines.{flag-known}
 use Rattle.expand.proofs.ByKind.{well-formed, single-alternative}
-use Rattle.expand.proofs.Numbers.{Copied, nth-of-delay, nth-of-throughout, nth-of-block, nth-of-only, nth-of-copies}
+use Rattle.expand.proofs.Numbers.{Copied, nth-of-delay, nth-of-throughout, nth-of-block, nth-of-only, nth-of-copies, same-alternatives}
 use Rattle.guards.specs.GuardText.{guard-expression, guard-text, closed-guard, joining}
 
 -- ---- `join_guards`
@@ -105,12 +109,45 @@ node-guard t n i = guard-text (alternatives-of t n) i
 abbrev copies-guard : List ℕ → ℕ → ℕ → ℕ → List ℕ
 copies-guard t n k i = guard-text (copies-of (alternatives-of t n) k) i
 
-module _ {t : List ℕ} {n i : ℕ} {v : Node} (o : List ℕ) (at : ℕ) (N : Numbered t n i) (room : at + length (node-guard t n i) ≤ length o) (w : v ≡ node-at t n) where
+-- Where no alternative has a guard, there is nothing to put.
+no-guard : (alts : List SeqAlt) (i : ℕ) → guarded alts ≡ false → guard-text alts i ≡ []
+unfolding guard-text nth pick
+no-guard [] i e = refl
+no-guard (y ∷ ys) zero e = by (y .guard) e
+  where
+    by : (g : Guard) → pick (has-guard g) true (guarded ys) ≡ false → guard-expression g ≡ []
+    by unguarded p = refl
+    by (guard x) p = absurd (false-is-not-true (sym p))
+no-guard (y ∷ ys) (suc i) e = no-guard ys i (by (has-guard (y .guard)) e)
+  where
+    by : (g : Bool) → pick g true (guarded ys) ≡ false → guarded ys ≡ false
+    by true p = absurd (false-is-not-true (sym p))
+    by false p = p
+
+pub unguarded-text : {t q : List ℕ} {n i f : ℕ} (o : List ℕ) (at : ℕ) → Numbered t n i → Known t q n → f ≡ flag-in q n → f ≡ 0
+    → Wrote o o at at (node-guard t n i)
+unfolding guard-flag alternatives-of pick
+unguarded-text {t} {q} {n} {i} o at N K e z =
+    same-words (sym (no-guard (alternatives-of t n) i (by (guarded (expand (tree-at t n))) (sym (flag-known (N .node) K) ∙ sym e ∙ z)))) (nothing-written o at)
+  where
+    by : (g : Bool) → _≡_ {A = ℕ} (pick g 1 0) 0 → g ≡ false
+    by true p = absurd (omega arith)
+    by false p = refl
+
+-- [*1], passed at one stroke
+module _ {t q : List ℕ} {n i m : ℕ} (o : List ℕ) (at : ℕ) (N : Numbered t n i) (K : Known t q n) (e : m ≡ bare-in q n) where
+  pub bare-guard-room : at + length (node-guard t n i) ≤ length o → at + length (node-guard t m i) ≤ length o
+  bare-guard-room room = rw (same-alternatives N K e) room
+
+  pub bare-guarded : {o₁ : List ℕ} {z : ℕ} → Wrote o o₁ at z (node-guard t m i) → Wrote o o₁ at z (node-guard t n i)
+  bare-guarded x = rw (same-alternatives N K e) at x
+
+module _ {t q : List ℕ} {n i : ℕ} {v : Node} (o : List ℕ) (at : ℕ) (N : Numbered t n i) (K : Known t q n) (room : at + length (node-guard t n i) ≤ length o) (w : v ≡ node-at t n) where
   abbrev own : Guard
   own = nth (alternatives-of t n) i .guard
 
   -- delay
-  module _ {s : Parts} (k : v .kind ≡ 2) (c : s ≡ delay-parts t n i) where
+  module _ {s : Parts} (k : v .kind ≡ 2) (c : s ≡ delay-parts q v i) where
     abbrev left : Guard
     left = nth (alternatives-of t (v .p)) (s .left) .guard
 
@@ -118,7 +155,7 @@ module _ {t : List ℕ} {n i : ℕ} {v : Node} (o : List ℕ) (at : ℕ) (N : Nu
     right = nth (alternatives-of t (v .q)) (s .right) .guard
 
     delay-guard : own ≡ and-opt left right
-    delay-guard = ap (λ (y : SeqAlt). y .guard) (nth-of-delay N w k c)
+    delay-guard = ap (λ (y : SeqAlt). y .guard) (nth-of-delay N K w k c)
 
     pub left-room : at + length (node-guard t (v .p) (s .left)) ≤ length o
     unfolding guard-text
@@ -148,7 +185,7 @@ module _ {t : List ℕ} {n i : ℕ} {v : Node} (o : List ℕ) (at : ℕ) (N : Nu
     condition = guard (any (a· (v .p)))
 
     throughout-guard : own ≡ and-opt under condition
-    throughout-guard = ap (λ (y : SeqAlt). y .guard) (nth-of-throughout N w k)
+    throughout-guard = ap (λ (y : SeqAlt). y .guard) (nth-of-throughout N K w k)
 
     pub condition-small : v .p < 65536
     condition-small = well-formed (N .node) w .condition-small k
@@ -173,10 +210,10 @@ module _ {t : List ℕ} {n i : ℕ} {v : Node} (o : List ℕ) (at : ℕ) (N : Nu
         throughout-guarded z = guards-joined own under condition throughout-guard o at room x y z
 
   -- copies
-  module _ (R : Copied v i) {b : Block} (g : b ≡ copies-block t n i) where
+  module _ (R : Copied v i) {b : Block} (g : b ≡ copies-block q v i) where
     block-guard : node-guard t n i ≡ copies-guard t (v .p) (b .later) (b .index)
     unfolding guard-text
-    block-guard = ap (λ (y : SeqAlt). guard-expression (y .guard)) (nth-of-block N w R g)
+    block-guard = ap (λ (y : SeqAlt). guard-expression (y .guard)) (nth-of-block N K w R g)
 
     pub block-room : at + length (copies-guard t (v .p) (b .later) (b .index)) ≤ length o
     block-room = rw block-guard at room
@@ -192,11 +229,11 @@ module _ {t : List ℕ} {n i : ℕ} {v : Node} (o : List ℕ) (at : ℕ) (N : Nu
   single-unguarded d g c x =
       same-words (ap (λ (y : SeqAlt). guard-expression (y .guard)) (sym (single-alternative (N .node) w d g i (N .index) c x))) (nothing-written o at)
 
-module _ {t : List ℕ} {n k i : ℕ} (o : List ℕ) (at : ℕ) (C : NumberedCopies t n k i) (room : at + length (copies-guard t n k i) ≤ length o) where
+module _ {t q : List ℕ} {n k i : ℕ} (o : List ℕ) (at : ℕ) (C : NumberedCopies t n k i) (K : Known t q n) (room : at + length (copies-guard t n k i) ≤ length o) where
   -- one copy
   only-guard : k ≡ 0 → copies-guard t n k i ≡ node-guard t n i
   unfolding guard-text
-  only-guard e = ap (λ (y : SeqAlt). guard-expression (y .guard)) (nth-of-only C e)
+  only-guard e = ap (λ (y : SeqAlt). guard-expression (y .guard)) (nth-of-only C K e)
 
   pub only-room : k ≡ 0 → at + length (node-guard t n i) ≤ length o
   only-room e = rw (only-guard e) at room
@@ -205,7 +242,7 @@ module _ {t : List ℕ} {n k i : ℕ} (o : List ℕ) (at : ℕ) (C : NumberedCop
   only-guarded e x = same-words (sym (only-guard e)) x
 
   -- the earlier copies, then the last
-  module _ {s : CopyDigits} (m : k ≡ 0 → ⊥) (e : s ≡ digits-of (length (alternatives-of t n)) i) where
+  module _ {s : CopyDigits} (m : k ≡ 0 → ⊥) (e : s ≡ digits-of (count-in q n) i) where
     abbrev all : Guard
     all = nth (copies-of (alternatives-of t n) k) i .guard
 
@@ -216,7 +253,7 @@ module _ {t : List ℕ} {n k i : ℕ} (o : List ℕ) (at : ℕ) (C : NumberedCop
     last-copy = nth (alternatives-of t n) (s .last) .guard
 
     copies-guarded-by : all ≡ and-opt earlier last-copy
-    copies-guarded-by = ap (λ (y : SeqAlt). y .guard) (nth-of-copies C m e)
+    copies-guarded-by = ap (λ (y : SeqAlt). y .guard) (nth-of-copies C K m e)
 
     pub earlier-room : at + length (copies-guard t n (k - 1) (s .earlier)) ≤ length o
     unfolding guard-text

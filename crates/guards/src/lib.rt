@@ -7,6 +7,7 @@ ghost use Prim.Native.Nat.{_+_, _≤_, _<_};
 ghost use lib.ListN.{length};
 ghost use Rattle.words.specs.Written.{Wrote};
 ghost use Rattle.meaning.specs.Listing.{word};
+ghost use Rattle.expand.specs.Outline.{Known};
 ghost use Rattle.expand.specs.ByNumber.{alternatives-of, copies-of, Numbered, NumberedCopies};
 ghost use Rattle.guards.specs.GuardText.{guard-text, closed-guard, joining};
 
@@ -41,50 +42,70 @@ fn join_guards(out: &mut [u32], from: usize, middle: usize, end: usize) -> usize
     put_operation(out, end, 7, 0)
 }
 
-// Puts the guard of alternative i of node n from the place on, without a closing `and`; the next place.
-fn guard_text(t: &[u32], n: u32, i: u32, work: &mut [u32], at: usize) -> usize
-    requires { ⌜ Numbered (now t) n i × (at + length (guard-text (alternatives-of (now t) n) i) ≤ length (now work)) ⌝ }
+// Puts the guard of alternative i of node n from the place on, without a closing `and`; the next place. The outline tells where
+// there is none to be looked for.
+fn guard_text(t: &[u32], outline: &[u32], n: u32, i: u32, work: &mut [u32], at: usize) -> usize
+    requires { ⌜ Numbered (now t) n i × Known (now t) (now outline) n × (at + length (guard-text (alternatives-of (now t) n) i) ≤ length (now work)) ⌝ }
+    ensures { λ next. ⌜ Wrote (now (work .entry)) (now (work .exit)) at next (guard-text (alternatives-of (now (t .entry)) n) i) ⌝ }
+{
+    if expand::flag_of(outline, n) == 0 {
+        return at;
+    }
+    bare_guard(t, outline, expand::bare_of(outline, n), i, work, at)
+}
+
+// The same of a node that is no [*1].
+fn bare_guard(t: &[u32], outline: &[u32], n: u32, i: u32, work: &mut [u32], at: usize) -> usize
+    requires { ⌜ Numbered (now t) n i × Known (now t) (now outline) n × (at + length (guard-text (alternatives-of (now t) n) i) ≤ length (now work)) ⌝ }
     ensures { λ next. ⌜ Wrote (now (work .entry)) (now (work .exit)) at next (guard-text (alternatives-of (now (t .entry)) n) i) ⌝ }
 {
     let v = tree::read(t, n);
     if v.kind == 2 {
-        let s = expand::delay_parts(t, n, i);
-        let middle = guard_text(t, v.p, s.left, work, at);
-        let end = guard_text(t, v.q, s.right, work, middle);
+        let s = expand::delay_parts(outline, v, i);
+        let middle = guard_text(t, outline, v.p, s.left, work, at);
+        let end = guard_text(t, outline, v.q, s.right, work, middle);
         return join_guards(work, at, middle, end);
     }
     if v.kind == 6 {
-        let middle = guard_text(t, v.q, i, work, at);
+        let middle = guard_text(t, outline, v.q, i, work, at);
         let end = put_condition(work, middle, v.p);
         return join_guards(work, at, middle, end);
     }
     if expand::made_of_copies(v, i) {
-        let s = expand::copies_block(t, n, i);
-        return repeated_guard(t, v.p, s.later, s.index, work, at);
+        let s = expand::copies_block(outline, v, i);
+        return repeated_guard(t, outline, v.p, s.later, s.index, work, at);
     }
     at
 }
 
 // The same of k + 1 copies of node n.
-fn repeated_guard(t: &[u32], n: u32, k: u32, i: u32, work: &mut [u32], at: usize) -> usize
-    requires { ⌜ NumberedCopies (now t) n k i × (at + length (guard-text (copies-of (alternatives-of (now t) n) k) i) ≤ length (now work)) ⌝ }
+fn repeated_guard(
+    t: &[u32],
+    outline: &[u32],
+    n: u32,
+    k: u32,
+    i: u32,
+    work: &mut [u32],
+    at: usize,
+) -> usize
+    requires { ⌜ NumberedCopies (now t) n k i × Known (now t) (now outline) n × (at + length (guard-text (copies-of (alternatives-of (now t) n) k) i) ≤ length (now work)) ⌝ }
     ensures { λ next. ⌜ Wrote (now (work .entry)) (now (work .exit)) at next (guard-text (copies-of (alternatives-of (now (t .entry)) n) k) i) ⌝ }
 {
     if k == 0 {
-        return guard_text(t, n, i, work, at);
+        return guard_text(t, outline, n, i, work, at);
     }
-    let s = expand::copy_digits(t, n, i);
-    let middle = repeated_guard(t, n, k - 1, s.earlier, work, at);
-    let end = guard_text(t, n, s.last, work, middle);
+    let s = expand::copy_digits(outline, n, i);
+    let middle = repeated_guard(t, outline, n, k - 1, s.earlier, work, at);
+    let end = guard_text(t, outline, n, s.last, work, middle);
     join_guards(work, at, middle, end)
 }
 
 // Puts the guard of alternative i of node n from the place on, closed by its `and` if there is one; the next place.
-pub fn guard_words(t: &[u32], n: u32, i: u32, work: &mut [u32], at: usize) -> usize
-    requires { ⌜ Numbered (now t) n i × (at + length (closed-guard (alternatives-of (now t) n) i) ≤ length (now work)) ⌝ }
+pub fn guard_words(t: &[u32], outline: &[u32], n: u32, i: u32, work: &mut [u32], at: usize) -> usize
+    requires { ⌜ Numbered (now t) n i × Known (now t) (now outline) n × (at + length (closed-guard (alternatives-of (now t) n) i) ≤ length (now work)) ⌝ }
     ensures { λ next. ⌜ Wrote (now (work .entry)) (now (work .exit)) at next (closed-guard (alternatives-of (now (t .entry)) n) i) ⌝ }
 {
-    let end = guard_text(t, n, i, work, at);
+    let end = guard_text(t, outline, n, i, work, at);
     if at == end {
         return end;
     }

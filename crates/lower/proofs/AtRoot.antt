@@ -8,13 +8,15 @@ use lib.ListN.{length}
 use Rattle.meaning.specs.Tree.{Seq, atom, delay, consec, goto, nonconsec, throughout, within, node-at, tree-at, nodes, below, root}
 use Rattle.meaning.specs.Alternative.{expand}
 use Rattle.meaning.specs.Refusals.{counts, room-of}
-use Rattle.meaning.specs.Lowerable.{FormedTable, Walkable, WalkableRoot}
+use Rattle.meaning.specs.Lowerable.{FormedTable, Walkable, WalkableRoot, Pairable}
 use Rattle.meaning.specs.declared.Node.{Node}
 use Rattle.meaning.specs.declared.Counts.{Counts}
 use Rattle.meaning.proofs.Nodes.{at-atom, at-delay, at-consec, at-goto, at-nonconsec, at-throughout, at-within}
 use Rattle.meaning.proofs.Ranges.{by-kind}
 use Rattle.meaning.proofs.Walks.{root-counts, a-walked-root-is-walkable, the-walk-counts-the-root}
-use Rattle.expand.specs.ByNumber.{alternatives-of}
+use Rattle.expand.specs.ByNumber.{alternatives-of, Expandable}
+use Rattle.expand.specs.Outline.{outlined}
+use Rattle.expand.proofs.Outlining.{known-after, known-kept, length-outlined}
 use Rattle.choice.specs.Passes.{Root}
 use Rattle.within.specs.Rows.{Paired}
 use Rattle.lower.specs.Stages.{RootWithin, Walks}
@@ -66,12 +68,16 @@ module _ {t : List ℕ} {work : ℕ} {c : Counts} (W : Walks t work c) {v : Node
     walkable : Walkable (room-of work) (tree-at t n)
     walkable = no-within t n (room-of work) (W .formed) is-inside (λ k. other (rw e k)) walkable-root
 
-    pub root-is-chosen : Root t n (c .alternatives) work
+    pub root-is-expandable : Expandable t n
+    root-is-expandable = record { formed = W .formed; inside = is-inside; room = room-of work; walkable = walkable }
+
+    pub root-is-chosen : (o : List ℕ) {o₁ : List ℕ} → nodes t ≤ length o → o₁ ≡ outlined (tree-at t n) o → Root t o₁ n (c .alternatives) work
     unfolding alternatives-of
-    root-is-chosen = record {
+    root-is-chosen o long made = record {
       formed = W .formed;
       inside = is-inside;
       walkable = walkable;
+      known = rw made (known-after o root-is-expandable long);
       counted =
           ap (λ (x : Counts). x .alternatives) (the-walk-counts-the-root (room-of work) (root t) c (sym (W .walks)))
           ∙ rw (← is-last) (counted-alternatives (room-of work) (tree-at t n) walkable);
@@ -91,16 +97,38 @@ module _ {t : List ℕ} {work : ℕ} {c : Counts} (W : Walks t work c) {v : Node
     pub root-is-within : RootWithin t (v .p) (v .q)
     root-is-within = record { number = n; is = rw (← is-last, e) pair }
 
-    pub operands-are-paired : Paired t (v .p) (v .q) work
+    walked : Walkable (room-of work) (tree-at t (v .p)) × Walkable (room-of work) (tree-at t (v .q)) × Pairable (room-of work) (alternatives-of t (v .p)) (alternatives-of t (v .q))
     unfolding alternatives-of WalkableRoot
-    operands-are-paired =
-        let walked = rw pair at walkable-root in
-        let lower = W .formed .each n is-inside in
-        rw e (record {
-          formed = W .formed;
-          one-inside = omega (arith, lower .within-one here, is-inside);
-          two-inside = omega (arith, lower .within-two here, is-inside);
-          one = walked .0;
-          two = walked .1;
-          pairs = walked .2;
-        })
+    walked = rw e (rw pair at walkable-root)
+
+    pub one-is-expandable : Expandable t (v .p)
+    one-is-expandable = record {
+      formed = W .formed;
+      inside = rw e (omega (arith, W .formed .each n is-inside .within-one here, is-inside));
+      room = room-of work;
+      walkable = walked .0;
+    }
+
+    pub two-is-expandable : Expandable t (v .q)
+    two-is-expandable = record {
+      formed = W .formed;
+      inside = rw e (omega (arith, W .formed .each n is-inside .within-two here, is-inside));
+      room = room-of work;
+      walkable = walked .1;
+    }
+
+    module _ (o : List ℕ) {o₁ : List ℕ} (long : nodes t ≤ length o) (made : o₁ ≡ outlined (tree-at t (v .p)) o) where
+      pub still-long-enough : nodes t ≤ length o₁
+      still-long-enough = rw made (omega (arith, length-outlined (tree-at t (v .p)) o))
+
+      pub operands-are-paired : {o₂ : List ℕ} → o₂ ≡ outlined (tree-at t (v .q)) o₁ → Paired t o₂ (v .p) (v .q) work
+      operands-are-paired made₂ = record {
+        formed = W .formed;
+        one-inside = one-is-expandable .inside;
+        two-inside = two-is-expandable .inside;
+        one = walked .0;
+        two = walked .1;
+        pairs = walked .2;
+        one-known = rw made₂ (known-kept o₁ two-is-expandable still-long-enough (rw made (known-after o one-is-expandable long)));
+        two-known = rw made₂ (known-after o₁ two-is-expandable still-long-enough);
+      }

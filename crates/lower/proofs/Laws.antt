@@ -119,7 +119,7 @@ module _ {t : List ℕ} {first registers : ℕ} {ws : List ℕ} (P : Placed t fi
             holds = rw (p, P .words) (v .holds);
           }
 
-module _ {t : List ℕ} {n count work : ℕ} (first : ℕ) (R : Root t n count work) (e : n ≡ below (nodes t)) where
+module _ {t o : List ℕ} {n count work : ℕ} (first : ℕ) (R : Root t o n count work) (e : n ≡ below (nodes t)) where
   -- The parts of the answer, as the passes over the alternatives have them.
   the-misplaced : misplaced (root t) ≡ first-misplaced 0 (alternatives-of t n)
   unfolding alternatives-of
@@ -137,7 +137,7 @@ module _ {t : List ℕ} {n count work : ℕ} (first : ℕ) (R : Root t n count w
       (some-alternatives (record { formed = R .formed; inside = R .inside; room = _; walkable = R .walkable }))
 
   the-registers : length (synth-of t first .stores) ≡ all-registers (alternatives-of t n)
-  the-registers = ap (λ (o : Synth). length (o .stores)) the-synth ∙ the-registers-of-a-choice (alternatives-of t n) first
+  the-registers = ap (λ (y : Synth). length (y .stores)) the-synth ∙ the-registers-of-a-choice (alternatives-of t n) first
 
   -- 12: the alternative that the survey names ..
   module _ {survey : Survey} (s : survey ≡ survey-of (alternatives-of t n)) where
@@ -160,7 +160,7 @@ module _ {t : List ℕ} {n count work : ℕ} (first : ℕ) (R : Root t n count w
       finishes-too-many out c d =
           finishes-refusing-13 t first out nothing-misplaced (the-registers ∙ sym counted) the-words (ltb-true 65536 (first + registers) (sym c ∙ d))
 
-      pub placed-choice : {now : ℕ} {b : Bool} → b ≡ ltb 65536 (first + registers) → b ≡ false → now ≡ work → PlacedChoice t n count first registers now
+      pub placed-choice : {now : ℕ} {b : Bool} → b ≡ ltb 65536 (first + registers) → b ≡ false → now ≡ work → PlacedChoice t o n count first registers now
       placed-choice c d same = record {
         root = rw same R;
         counted = counted;
@@ -174,7 +174,7 @@ module _ {t : List ℕ} {n count work : ℕ} (first : ℕ) (R : Root t n count w
       }
 
 -- A root within: 12 never falls on it, and its words are those of all its pairs.
-module _ {t : List ℕ} {one two work : ℕ} (first : ℕ) (Q : Paired t one two work) (W : RootWithin t one two) where
+module _ {t o : List ℕ} {one two work : ℕ} (first : ℕ) (Q : Paired t o one two work) (W : RootWithin t one two) where
   within-synth : synth-of t first ≡ synth-within (alternatives-of t one) (alternatives-of t two) first
   unfolding synth-of alternatives-of
   within-synth = rw (W .is) refl
@@ -190,13 +190,13 @@ module _ {t : List ℕ} {one two work : ℕ} (first : ℕ) (Q : Paired t one two
   module _ {registers : ℕ} (q : registers ≡ within-registers (alternatives-of t one) (alternatives-of t two)) where
     within-stored : length (synth-of t first .stores) ≡ registers
     within-stored =
-        ap (λ (o : Synth). length (o .stores)) within-synth ∙ the-registers-of-a-within (alternatives-of t one) (alternatives-of t two) first ∙ sym q
+        ap (λ (y : Synth). length (y .stores)) within-synth ∙ the-registers-of-a-within (alternatives-of t one) (alternatives-of t two) first ∙ sym q
 
     pub within-finishes-too-many : (out : List ℕ) {b : Bool} → b ≡ ltb 65536 (first + registers) → b ≡ true → Finishes t first out (Refused 13 0) out
     within-finishes-too-many out c d =
         finishes-refusing-13 t first out within-placed within-stored within-listing (ltb-true 65536 (first + registers) (sym c ∙ d))
 
-    pub placed-within : {now : ℕ} {b : Bool} → b ≡ ltb 65536 (first + registers) → b ≡ false → now ≡ work → PlacedWithin t one two first registers now
+    pub placed-within : {now : ℕ} {b : Bool} → b ≡ ltb 65536 (first + registers) → b ≡ false → now ≡ work → PlacedWithin t o one two first registers now
     placed-within c d same = record {
       paired = rw same Q;
       counted = q;
@@ -236,6 +236,9 @@ module _ (t : List ℕ) (first work : ℕ) (out : List ℕ) {table-is : Table} (
       module _ {c : Counts} (e : walked ≡ Counted c) where
         pub table-is-walked : Walks t work c
         table-is-walked = record { formed = a-checked-table-is-formed t p f; walks = sym e ∙ w }
+
+        pub outline-is-long : (o : List ℕ) → (nodes t ≤ 4096 → nodes t ≤ length o) → nodes t ≤ length o
+        outline-is-long o long = long (a-checked-table-is-formed t p f .few)
 
         pub answers-finished : {out₁ : List ℕ} {r : Lowered} → Finishes t first out r out₁ → Answers t first work out r out₁
         unfolding lower after-nothing after-table

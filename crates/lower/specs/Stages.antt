@@ -44,15 +44,15 @@ pub record Placed (t : List ℕ) (first registers : ℕ) (ws : List ℕ) : Type 
   pub words : words-of t first ≡ ws
   pub few : first + registers ≤ 65536
 
--- .. whose root is no within.
-pub record PlacedChoice (t : List ℕ) (n count first registers work : ℕ) : Type 0 where
-  pub root : Root t n count work
+-- .. whose root is no within; o is its outline.
+pub record PlacedChoice (t o : List ℕ) (n count first registers work : ℕ) : Type 0 where
+  pub root : Root t o n count work
   pub counted : registers ≡ all-registers (alternatives-of t n)
   pub placed : Placed t first registers (choice-words (alternatives-of t n) first)
 
 -- .. whose root is a within; its operands are the nodes one and two.
-pub record PlacedWithin (t : List ℕ) (one two first registers work : ℕ) : Type 0 where
-  pub paired : Paired t one two work
+pub record PlacedWithin (t o : List ℕ) (one two first registers work : ℕ) : Type 0 where
+  pub paired : Paired t o one two work
   pub counted : registers ≡ within-registers (alternatives-of t one) (alternatives-of t two)
   pub placed : Placed t first registers (within-words (alternatives-of t one) (alternatives-of t two) first)
 

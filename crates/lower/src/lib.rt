@@ -48,6 +48,7 @@ fn misplaced(survey: choice::Survey) -> meaning::Lowered
 // A root that is no within, past 12 and 13: 14, or the listing.
 fn listed_choice(
     tree: &[u32],
+    outline: &[u32],
     n: u32,
     count: u32,
     first: u32,
@@ -55,42 +56,44 @@ fn listed_choice(
     work: &mut [u32],
     out: &mut [u32],
 ) -> meaning::Lowered
-    requires { ⌜ PlacedChoice (now tree) n count first registers (length (now work)) ⌝ }
+    requires { ⌜ PlacedChoice (now tree) (now outline) n count first registers (length (now work)) ⌝ }
     ensures { λ r. ⌜ Finishes (now (tree .entry)) first (now (out .entry)) r (now (out .exit)) ⌝ }
 {
-    let words = choice::word_count(tree, n, count, first, work);
+    let words = choice::word_count(tree, outline, n, count, first, work);
     if (out.len() as u64) < words {
         return meaning::Lowered::Refused(14, 0);
     }
-    let end = choice::write(tree, n, count, first, work, out);
+    let end = choice::write(tree, outline, n, count, first, work, out);
     listed(registers, out, end)
 }
 
 // A root that is no within: 12, 13, or what comes then.
 fn lowered_choice(
     tree: &[u32],
+    outline: &[u32],
     n: u32,
     count: u32,
     first: u32,
     work: &mut [u32],
     out: &mut [u32],
 ) -> meaning::Lowered
-    requires { ⌜ Root (now tree) n count (length (now work)) × (n ≡ below (nodes (now tree))) ⌝ }
+    requires { ⌜ Root (now tree) (now outline) n count (length (now work)) × (n ≡ below (nodes (now tree))) ⌝ }
     ensures { λ r. ⌜ Finishes (now (tree .entry)) first (now (out .entry)) r (now (out .exit)) ⌝ }
 {
-    let survey = choice::surveyed(tree, n, count, work);
+    let survey = choice::surveyed(tree, outline, n, count, work);
     let choice::Survey::Registers(registers) = survey else {
         return misplaced(survey);
     };
     if too_many(first, registers) {
         return meaning::Lowered::Refused(13, 0);
     }
-    listed_choice(tree, n, count, first, registers, work, out)
+    listed_choice(tree, outline, n, count, first, registers, work, out)
 }
 
 // A root within, past 13: 14, or the listing.
 fn listed_within(
     tree: &[u32],
+    outline: &[u32],
     one: u32,
     two: u32,
     first: u32,
@@ -98,53 +101,58 @@ fn listed_within(
     work: &mut [u32],
     out: &mut [u32],
 ) -> meaning::Lowered
-    requires { ⌜ PlacedWithin (now tree) one two first registers (length (now work)) ⌝ }
+    requires { ⌜ PlacedWithin (now tree) (now outline) one two first registers (length (now work)) ⌝ }
     ensures { λ r. ⌜ Finishes (now (tree .entry)) first (now (out .entry)) r (now (out .exit)) ⌝ }
 {
-    let words = within::word_count(tree, one, two, work);
+    let words = within::word_count(tree, outline, one, two, work);
     if (out.len() as u64) < words {
         return meaning::Lowered::Refused(14, 0);
     }
-    let end = within::write(tree, one, two, first, work, out);
+    let end = within::write(tree, outline, one, two, first, work, out);
     listed(registers, out, end)
 }
 
 // A root within of the nodes one and two: 13, or what comes then. 12 never falls on it.
 fn lowered_within(
     tree: &[u32],
+    outline: &[u32],
     one: u32,
     two: u32,
     first: u32,
     work: &mut [u32],
     out: &mut [u32],
 ) -> meaning::Lowered
-    requires { ⌜ Paired (now tree) one two (length (now work)) × RootWithin (now tree) one two ⌝ }
+    requires { ⌜ Paired (now tree) (now outline) one two (length (now work)) × RootWithin (now tree) one two ⌝ }
     ensures { λ r. ⌜ Finishes (now (tree .entry)) first (now (out .entry)) r (now (out .exit)) ⌝ }
 {
-    let registers = within::registers(tree, one, two, work);
+    let registers = within::registers(tree, outline, one, two, work);
     if too_many(first, registers) {
         return meaning::Lowered::Refused(13, 0);
     }
-    listed_within(tree, one, two, first, registers, work, out)
+    listed_within(tree, outline, one, two, first, registers, work, out)
 }
 
-// A tree that the walk counted, by the kind of its root.
+// A tree that the walk counted, by the kind of its root. Its outline is made here, once for all alternatives and passes.
 fn lowered_root(
     tree: &[u32],
     c: meaning::Counts,
     first: u32,
+    outline: &mut [u32],
     work: &mut [u32],
     out: &mut [u32],
 ) -> meaning::Lowered
-    requires { ⌜ Walks (now tree) (length (now work)) c ⌝ }
+    requires { ⌜ Walks (now tree) (length (now work)) c × (nodes (now tree) ≤ length (now outline)) ⌝ }
     ensures { λ r. ⌜ Finishes (now (tree .entry)) first (now (out .entry)) r (now (out .exit)) ⌝ }
 {
     let n = (tree.len() / 5 - 1) as u32;
     let v = tree::read(tree, n);
     if v.kind == 7 {
-        return lowered_within(tree, v.p, v.q, first, work, out);
+        expand::put_outline(tree, v.p, outline);
+        expand::put_outline(tree, v.q, outline);
+        return lowered_within(tree, outline, v.p, v.q, first, work, out);
     }
-    lowered_choice(tree, n, c.alternatives, first, work, out)
+    expand::put_outline(tree, n, outline);
+    lowered_choice(tree, outline, n, c.alternatives, first, work, out)
 }
 
 // 1 to 3, of a table that the checks refuse.
@@ -168,7 +176,14 @@ fn stopped(walked: meaning::Walked) -> meaning::Lowered
 }
 
 // Every refusal in 01's order, or the listing; work is left as the last alternative stands in it.
-fn lowered(tree: &[u32], first: u32, work: &mut [u32], out: &mut [u32]) -> meaning::Lowered
+fn lowered(
+    tree: &[u32],
+    first: u32,
+    outline: &mut [u32],
+    work: &mut [u32],
+    out: &mut [u32],
+) -> meaning::Lowered
+    requires { ⌜ (nodes (now tree) ≤ 4096 → nodes (now tree) ≤ length (now outline)) ⌝ }
     ensures { λ r. ⌜ Answers (now (tree .entry)) first (length (now (work .entry))) (now (out .entry)) r (now (out .exit)) ⌝ }
 {
     let table = tree::checked(tree);
@@ -179,14 +194,27 @@ fn lowered(tree: &[u32], first: u32, work: &mut [u32], out: &mut [u32]) -> meani
     let meaning::Walked::Counted(c) = walked else {
         return stopped(walked);
     };
-    lowered_root(tree, c, first, work, out)
+    lowered_root(tree, c, first, outline, work, out)
+}
+
+// The same with an outline of its own. Few trees need as many words as a tree may have nodes, and clearing these takes longer than
+// lowering a small one.
+fn answered(tree: &[u32], first: u32, work: &mut [u32], out: &mut [u32]) -> meaning::Lowered
+    ensures { λ r. ⌜ Answers (now (tree .entry)) first (length (now (work .entry))) (now (out .entry)) r (now (out .exit)) ⌝ }
+{
+    if tree.len() <= 320 {
+        let mut outline = [0u32; 64];
+        return lowered(tree, first, &mut outline, work, out);
+    }
+    let mut outline = [0u32; 4096];
+    lowered(tree, first, &mut outline, work, out)
 }
 
 // Lowering with registers numbered from `first` on.
 pub fn lower_from(tree: &[u32], first: u32, work: &mut [u32], out: &mut [u32]) -> meaning::Lowered
     ensures { λ r. ⌜ Lowers (now (tree .entry)) first (now (work .entry)) (now (out .entry)) r (now (work .exit)) (now (out .exit)) ⌝ }
 {
-    let answer = lowered(tree, first, work, out);
+    let answer = answered(tree, first, work, out);
     words::clear(work);
     answer
 }

@@ -1,11 +1,11 @@
 -- The checks of a table one after the other: what each asks of the one before, and which answer it leaves.
-use mathlib.Core.Path.{_≡_, refl, sym, _∙_}
+use mathlib.Core.Path.{_≡_, refl, sym, _∙_, ap}
 use mathlib.Core.Bool.{Bool, true, false}
 use mathlib.Core.List.{List}
 use Prim.Native.Nat.{ℕ, zero, suc, _+_, _-_, _%_, _<_, _≤_}
 use native.Mathlib.Omega.{arith}
 use lib.Dec.{eqb, ltb}
-use lib.ListN.{length, replicate, length-replicate, getD-replicate}
+use lib.ListN.{length, replicate, getD, getD-replicate}
 use borrow.Author.Tests.{eqb-true, ltb-true, ne-eqb, le-ltb, eq-eqb}
 use Rattle.words.specs.Choice.{pick, pick-case, pick-true, pick-false}
 use Rattle.meaning.specs.Tree.{node-at, nodes, below}
@@ -44,25 +44,25 @@ operands-lower n v =
     none : {A : Type 0} → false ≡ true → A
     none e = absurd (false-is-not-true e)
 
--- So all operands have a place in a list of 4,096 nodes.
-pub operands-within : (t used : List ℕ) (count : ℕ) → length used ≡ 4096 → AllFormed t count → AllOperandsWithin (length used) t count
+-- So all operands have a place in a list of as many nodes.
+pub operands-within : (t used : List ℕ) (count : ℕ) → count ≤ length used → AllFormed t count → AllOperandsWithin (length used) t count
 operands-within t used count long f = record {
   inside = f .inside;
   few = f .few;
   each = λ n h.
       let o = operands-lower n (node-at t n) (each-passes 1 (formed-at t) count 0 Formed (f .formed) n (omega arith) (omega arith)) in
-      record { left = λ u. let l = o .left u in omega (arith, f .few); right = λ u. let l = o .right u in omega (arith, f .few) };
+      record { left = λ u. let l = o .left u in omega arith; right = λ u. let l = o .right u in omega arith };
 }
 
 -- 2, from the list of all uses.
-pub misused-counted : (t : List ℕ) (count : ℕ) {used : List ℕ} {r : Table} → AllFormed t count → used ≡ used-by t count (replicate 4096 0)
-    → r ≡ lowest-failing 2 (counted-once used) (count - 1) 0 Formed → r ≡ lowest-failing 2 (used-once t) (below count) 0 Formed
-misused-counted t zero f u e = absurd (omega (arith, f .some))
-misused-counted t (suc count) {used} f u e =
-    let none : List ℕ = replicate 4096 0 in
-    let within = operands-within t none (suc count) (length-replicate {A = ℕ} 4096 0) f in
+pub misused-counted : (t none : List ℕ) (count : ℕ) {used : List ℕ} {r : Table} → AllFormed t count → count ≤ length none → none ≡ replicate (length none) 0
+    → used ≡ used-by t count none → r ≡ lowest-failing 2 (counted-once used) (count - 1) 0 Formed → r ≡ lowest-failing 2 (used-once t) (below count) 0 Formed
+misused-counted t none zero f long clear u e = absurd (omega (arith, f .some))
+misused-counted t none (suc count) {used} f long clear u e =
+    let within = operands-within t none (suc count) long f in
+    let unused : (k : ℕ) → k < length none → getD none k 0 ≡ 0 = λ k h. ap (λ (l : List ℕ). getD l k 0) clear ∙ getD-replicate {A = ℕ} (length none) k 0 0 h in
     let same : (k : ℕ) → k < 0 + count → counted-once used k ≡ used-once t k = λ k h.
-    rw (u, ← f .whole) (once-counted t none k (suc count) within (getD-replicate {A = ℕ} 4096 k 0 0 (omega (arith, f .few)))) in
+    rw (u, ← f .whole) (once-counted t none k (suc count) within (unused k (omega arith))) in
     let q : suc count - 1 ≡ count = omega arith in
     e ∙ rw q (same-lowest 2 (counted-once used) (used-once t) Formed count 0 same)
 

@@ -5,7 +5,7 @@
 ghost use mathlib.Core.Path.{_≡_};
 ghost use mathlib.Core.Bool.{true, false};
 ghost use Prim.Native.Nat.{_+_, _*_, _≤_, _<_};
-ghost use lib.ListN.{length};
+ghost use lib.ListN.{length, replicate};
 ghost use Rattle.words.specs.Choice.{pick};
 ghost use Rattle.meaning.specs.Tree.{node-at, below};
 ghost use Rattle.meaning.specs.Refusals.{lowest-failing, formed-node, uses-p, uses-q, used-once, range-node, table};
@@ -223,14 +223,26 @@ fn lowest_not_once(used: &[u8], count: u32) -> meaning::Table
     meaning::Table::Formed
 }
 
-// The lowest node but the root that 2 refuses.
+// The lowest node but the root that 2 refuses, by uses counted in cleared bytes.
+fn lowest_misused_in(used: &mut [u8], t: &[u32], count: u32) -> meaning::Table
+    requires { ⌜ AllFormed (now t) count × (count ≤ length (now used)) × (now used ≡ replicate (length (now used)) 0) ⌝ }
+    ensures { λ r. ⌜ r ≡ lowest-failing 2 (used-once (now (t .entry))) (below count) 0 Formed ⌝ }
+{
+    count_uses(used, t, count);
+    lowest_not_once(used, count - 1)
+}
+
+// .. in bytes of its own. Few trees need as many as a tree may have nodes, and these take long to clear beside a small tree.
 fn lowest_misused(t: &[u32], count: u32) -> meaning::Table
     requires { ⌜ AllFormed (now t) count ⌝ }
     ensures { λ r. ⌜ r ≡ lowest-failing 2 (used-once (now (t .entry))) (below count) 0 Formed ⌝ }
 {
+    if count <= 64 {
+        let mut used = [0u8; 64];
+        return lowest_misused_in(&mut used, t, count);
+    }
     let mut used = [0u8; 4096];
-    count_uses(&mut used, t, count);
-    lowest_not_once(&used, count - 1)
+    lowest_misused_in(&mut used, t, count)
 }
 
 // 1, 2 and 3 over the whole table, in this order.

@@ -16,6 +16,8 @@ use Rattle.meaning.specs.declared.SeqStep.{SeqStep}
 use Rattle.meaning.proofs.Counting.{length-rehop}
 use Rattle.meaning.proofs.Walks.{room-is-small}
 use Rattle.expand.specs.ByNumber.{alternatives-of, nth, alternative-words, Expandable, Numbered}
+use Rattle.expand.specs.Outline.{count-in}
+use Rattle.expand.proofs.Outlines.{count-known, inside-outline}
 use Rattle.expand.proofs.Every.{has-step, each-expanded, each-nth}
 use Rattle.expand.proofs.SmallAtoms.{small-rehop, an-alternative-has-small-atoms}
 use Rattle.choice.proofs.Keeping.{room-in-work}
@@ -41,8 +43,16 @@ module _ {o o′ : List ℕ} {at end : ℕ} {ws : List ℕ} (w : Wrote o o′ at
   pub front-kept : take at o′ ≡ take at o
   front-kept = rw parts-are (take-at (take at o) (ws ++ drop (at + length ws) o) at front-long)
 
+-- The outline tells how many alternatives a node has.
+module _ {t outline : List ℕ} {n place work : ℕ} (P : Placed t outline n place work) where
+  pub placed-outline : n < length outline
+  placed-outline = inside-outline (P .node) (P .known)
+
+  pub placed-count : {count : ℕ} → count ≡ count-in outline n → count ≡ length (alternatives-of t n)
+  placed-count e = e ∙ count-known (P .node) (P .known)
+
 -- The i-th alternative of a node, from the place on.
-module _ {t : List ℕ} {n place work i : ℕ} (P : Placed t n place work) (h : i < length (alternatives-of t n)) where
+module _ {t outline : List ℕ} {n place work i : ℕ} (P : Placed t outline n place work) (h : i < length (alternatives-of t n)) where
   abbrev steps : List SeqStep
   steps = nth (alternatives-of t n) i .steps
 
@@ -71,7 +81,7 @@ module _ {t : List ℕ} {n place work i : ℕ} (P : Placed t n place work) (h : 
   placed-room = omega (arith, words-long, few-steps, P .room)
 
 -- .. once it is written there.
-module _ {t : List ℕ} {n place i : ℕ} {o o′ : List ℕ} {end : ℕ} (P : Placed t n place (length o)) (h : i < length (alternatives-of t n))
+module _ {t outline : List ℕ} {n place i : ℕ} {o o′ : List ℕ} {end : ℕ} (P : Placed t outline n place (length o)) (h : i < length (alternatives-of t n))
     (w : Wrote o o′ place end (alternative-words (Fixed 0) (alternatives-of t n) i)) where
   part-is : take (end - place) (drop place o′) ≡ alternative-words (Fixed 0) (alternatives-of t n) i
   part-is = part-written w (placed-room P h)
@@ -90,7 +100,7 @@ module _ {t : List ℕ} {n place i : ℕ} {o o′ : List ℕ} {end : ℕ} (P : P
   end-low = omega (arith, w .ends, words-long P h, few-steps P h)
 
 -- .. at the front of work.
-module _ {t : List ℕ} {n i : ℕ} {o o′ : List ℕ} {end : ℕ} (P : Placed t n 0 (length o)) (h : i < length (alternatives-of t n))
+module _ {t outline : List ℕ} {n i : ℕ} {o o′ : List ℕ} {end : ℕ} (P : Placed t outline n 0 (length o)) (h : i < length (alternatives-of t n))
     (w : Wrote o o′ 0 end (alternative-words (Fixed 0) (alternatives-of t n) i)) where
   front-is : take end o′ ≡ take (end - 0) (drop 0 o′)
   front-is = ap (λ (k : ℕ). take k o′) (sym (sub-zero end))
@@ -105,7 +115,7 @@ module _ {t : List ℕ} {n i : ℕ} {o o′ : List ℕ} {end : ℕ} (P : Placed 
   front-measured = sym (length-take-le end o′ (part-ends P h w))
 
 -- Seq2's alternative in front, and room for each of seq1's behind it, whatever was written into work since.
-module _ {t : List ℕ} {n₁ n₂ work : ℕ} (P : Paired t n₁ n₂ work) where
+module _ {t outline : List ℕ} {n₁ n₂ work : ℕ} (P : Paired t outline n₁ n₂ work) where
   pub seq1-node : Expandable t n₁
   seq1-node = record { formed = P .formed; inside = P .one-inside; room = room-of work; walkable = P .one }
 
@@ -118,16 +128,21 @@ module _ {t : List ℕ} {n₁ n₂ work : ℕ} (P : Paired t n₁ n₂ work) whe
   both-few : entries (alternatives-of t n₁) + entries (alternatives-of t n₂) ≤ 65536
   both-few = omega (arith, P .pairs .fits, room-is-small work)
 
-  pub seq2-placed : Placed t n₂ 0 work
-  seq2-placed = record { node = seq2-node; room = omega (arith, both-fit); few = omega (arith, both-few) }
+  pub seq2-placed : Placed t outline n₂ 0 work
+  seq2-placed = record { node = seq2-node; known = P .two-known; room = omega (arith, both-fit); few = omega (arith, both-few) }
 
-pub seq1-placed : {t : List ℕ} {n₁ n₂ i end : ℕ} {o o′ : List ℕ} → Paired t n₁ n₂ (length o) → i < length (alternatives-of t n₂)
-    → Wrote o o′ 0 end (alternative-words (Fixed 0) (alternatives-of t n₂) i) → Placed t n₁ end (length o′)
+pub seq1-placed : {t outline : List ℕ} {n₁ n₂ i end : ℕ} {o o′ : List ℕ} → Paired t outline n₁ n₂ (length o) → i < length (alternatives-of t n₂)
+    → Wrote o o′ 0 end (alternative-words (Fixed 0) (alternatives-of t n₂) i) → Placed t outline n₁ end (length o′)
 seq1-placed P h w = record {
   node = seq1-node P;
+  known = P .one-known;
   room = omega (arith, both-fit P, end-low (seq2-placed P) h w, still-long w);
   few = omega (arith, both-few P);
 }
 
-pub still-paired : {t : List ℕ} {n₁ n₂ work work′ : ℕ} → Paired t n₁ n₂ work → work′ ≡ work → Paired t n₁ n₂ work′
+-- Work is as long as it was.
+pub still-placed : {t outline : List ℕ} {n place work work′ : ℕ} → Placed t outline n place work → work′ ≡ work → Placed t outline n place work′
+still-placed P e = rw e P
+
+pub still-paired : {t outline : List ℕ} {n₁ n₂ work work′ : ℕ} → Paired t outline n₁ n₂ work → work′ ≡ work → Paired t outline n₁ n₂ work′
 still-paired P e = rw e P

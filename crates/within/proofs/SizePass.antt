@@ -24,8 +24,7 @@ use Rattle.within.specs.AllSizes.{plus, pairs-size, row-size, all-size, 
 use Rattle.within.specs.Rows.{Placed, Paired}
 use Rattle.expand.proofs.Index.{rest-of}
 use Rattle.within.proofs.Rows.{part-steps, front-steps, seq1-node, seq2-node, seq2-placed}
-use Rattle.within.proofs.RegisterPass.{window-rehop}
-use Rattle.within.proofs.StorePass.{part-registers, row-registers-are}
+use Rattle.within.proofs.RegisterPass.{part-registers, front-window, row-registers-are}
 
 -- The hop of a first term is never used.
 taken-size-rehop : (h : SeqHop) (l two : ℕ) (ss : List SeqStep) → taken-size l two (rehop h ss) ≡ taken-size l two ss
@@ -39,8 +38,8 @@ size-rehop h [] = refl
 size-rehop h (s ∷ ss) = refl
 
 -- The alternative of seq1 that stands in work.
-module _ {t : List ℕ} {n place j : ℕ} {work work₁ : List ℕ} {end : ℕ} (l : ℕ) (P : Placed t n place (length work)) (h : j < length (alternatives-of t n))
-    (w : Wrote work work₁ place end (alternative-words (Fixed 0) (alternatives-of t n) j)) where
+module _ {t outline : List ℕ} {n place j : ℕ} {work work₁ : List ℕ} {end : ℕ} (l : ℕ) (P : Placed t outline n place (length work))
+    (h : j < length (alternatives-of t n)) (w : Wrote work work₁ place end (alternative-words (Fixed 0) (alternatives-of t n) j)) where
   pub part-size-small : taken-registers l (nth (alternatives-of t n) j .steps) ≤ 65536 → taken-registers l (steps-in (take (end - place) (drop place work₁))) ≤ 65536
   part-size-small small = rw (part-registers l P h w) small
 
@@ -69,7 +68,8 @@ unfolding plus
 plus-stores a b e = ap (λ (z : Size). z .stores) e
 
 -- The pairs of one alternative of seq2.
-pub record PairSizes (t : List ℕ) (n l two : ℕ) (work₀ work : List ℕ) (total : Size) (j : ℕ) : Type 0 where
+pub record PairSizes (t : List ℕ) (n l two count : ℕ) (work₀ work : List ℕ) (total : Size) (j : ℕ) : Type 0 where
+  pub counted : count ≡ length (alternatives-of t n)
   pub turn : j ≤ length (alternatives-of t n)
   pub low-text : total .text ≤ j * 4194304
   pub low-stores : total .stores ≤ j * 18014398509481984
@@ -77,15 +77,16 @@ pub record PairSizes (t : List ℕ) (n l two : ℕ) (work₀ work : List ℕ) (t
   pub register : pairs-registers l (drop j (alternatives-of t n)) ≤ pairs-registers l (alternatives-of t n)
   pub rest : pairs-size l two (alternatives-of t n) ≡ plus total (pairs-size l two (drop j (alternatives-of t n)))
 
-pub pair-sizes-begin : (t : List ℕ) (n l two : ℕ) (work : List ℕ) → PairSizes t n l two work work (size 0 0) 0
-pair-sizes-begin t n l two work =
-    record { turn = omega arith; low-text = omega arith; low-stores = omega arith; long = refl; register = omega arith; rest = sym (plus-none _) }
+pub pair-sizes-begin : {t : List ℕ} {n count : ℕ} (l two : ℕ) (work : List ℕ) → count ≡ length (alternatives-of t n)
+    → PairSizes t n l two count work work (size 0 0) 0
+pair-sizes-begin l two work c =
+    record { counted = c; turn = omega arith; low-text = omega arith; low-stores = omega arith; long = refl; register = omega arith; rest = sym (plus-none _) }
 
-module _ {t : List ℕ} {n l two : ℕ} {work₀ work : List ℕ} {total : Size} {j count : ℕ} (c : count ≡ length (alternatives-of t n))
-    (S : PairSizes t n l two work₀ work total j) where
+module _ {t : List ℕ} {n l two : ℕ} {work₀ work : List ℕ} {total : Size} {j count : ℕ}
+    (S : PairSizes t n l two count work₀ work total j) where
   module _ (h : j < count) where
     next : drop j (alternatives-of t n) ≡ nth (alternatives-of t n) j ∷ drop (j + 1) (alternatives-of t n)
-    next = rest-of (alternatives-of t n) j (omega arith)
+    next = rest-of (alternatives-of t n) j (omega (arith, S .counted))
 
     registers-next : pairs-registers l (drop j (alternatives-of t n)) ≡ taken-registers l (nth (alternatives-of t n) j .steps) + pairs-registers l (drop (j + 1) (alternatives-of t n))
     unfolding pairs-registers
@@ -99,16 +100,17 @@ module _ {t : List ℕ} {n l two : ℕ} {work₀ work : List ℕ} {total : Size}
     pair-sizes-small small = omega (arith, S .register, registers-next)
 
     module _ {z : Size} (text : z .text ≤ 4194304) (stores : z .stores ≤ 18014398509481984) where
-      pub pair-sizes-text-fits : {place work : ℕ} → Placed t n place work → total .text + z .text ≤ 18446744073709551615
-      pair-sizes-text-fits P = omega (arith, S .low-text, few-alternatives (P .node))
+      pub pair-sizes-text-fits : {outline : List ℕ} {place work : ℕ} → Placed t outline n place work → total .text + z .text ≤ 18446744073709551615
+      pair-sizes-text-fits P = omega (arith, S .counted, S .low-text, few-alternatives (P .node))
 
-      pub pair-sizes-stores-fit : {place work : ℕ} → Placed t n place work → total .stores + z .stores ≤ 18446744073709551615
-      pair-sizes-stores-fit P = omega (arith, S .low-stores, few-alternatives (P .node))
+      pub pair-sizes-stores-fit : {outline : List ℕ} {place work : ℕ} → Placed t outline n place work → total .stores + z .stores ≤ 18446744073709551615
+      pair-sizes-stores-fit P = omega (arith, S .counted, S .low-stores, few-alternatives (P .node))
 
       pub pair-sizes-on : {r : Size} {work₁ : List ℕ} → length work₁ ≡ length work → z ≡ taken-size l two (nth (alternatives-of t n) j .steps) → r ≡ plus total z
-          → PairSizes t n l two work₀ work₁ r (j + 1)
+          → PairSizes t n l two count work₀ work₁ r (j + 1)
       pair-sizes-on same e f = record {
-        turn = omega arith;
+        counted = S .counted;
+        turn = omega (arith, S .counted);
         low-text = omega (arith, S .low-text, plus-text total z f);
         low-stores = omega (arith, S .low-stores, plus-stores total z f);
         long = same ∙ S .long;
@@ -120,7 +122,7 @@ module _ {t : List ℕ} {n l two : ℕ} {work₀ work : List ℕ} {total : Size}
     pub pair-sizes-end : total ≡ pairs-size l two (alternatives-of t n)
     unfolding pairs-size
     pair-sizes-end =
-        sym (S .rest ∙ rw (drop-of-length-le (alternatives-of t n) {i = j} (omega arith)) (none-plus total))
+        sym (S .rest ∙ rw (drop-of-length-le (alternatives-of t n) {i = j} (omega (arith, S .counted))) (none-plus total))
 
     pub pair-sizes-text : total .text ≤ length (alternatives-of t n) * 4194304
     pair-sizes-text = omega (arith, S .low-text, S .turn)
@@ -129,7 +131,7 @@ module _ {t : List ℕ} {n l two : ℕ} {work₀ work : List ℕ} {total : Size}
     pair-sizes-stores = omega (arith, S .low-stores, S .turn)
 
 -- One alternative of seq2 and its pairs.
-module _ {t : List ℕ} {n₁ n₂ i : ℕ} {work work₁ : List ℕ} {end : ℕ} (P : Paired t n₁ n₂ (length work)) (h : i < length (alternatives-of t n₂))
+module _ {t outline : List ℕ} {n₁ n₂ i : ℕ} {work work₁ : List ℕ} {end : ℕ} (P : Paired t outline n₁ n₂ (length work)) (h : i < length (alternatives-of t n₂))
     (w : Wrote work work₁ 0 end (alternative-words (Fixed 0) (alternatives-of t n₂) i)) where
   pub row-size-own-small : row-registers (alternatives-of t n₁) (nth (alternatives-of t n₂) i .steps) ≤ 65536 → registers-in (steps-in (take end work₁)) ≤ 65536
   row-size-own-small small = omega (arith, row-registers-are P h w refl refl)
@@ -143,12 +145,11 @@ module _ {t : List ℕ} {n₁ n₂ i : ℕ} {work work₁ : List ℕ} {end : ℕ
     unfolding row-size
     row-size-are f g q =
         let chosen = nth (alternatives-of t n₂) i .steps in
-        let s = front-steps (seq2-placed P) h w in
-        let window : l ≡ window-len chosen = e ∙ ap window-len s ∙ window-rehop (Fixed 0) chosen in
-        let sizes = f ∙ ap size-in s ∙ size-rehop (Fixed 0) chosen in
+        let window : l ≡ window-len chosen = e ∙ front-window P h w in
+        let sizes = f ∙ ap size-in (front-steps (seq2-placed P) h w) ∙ size-rehop (Fixed 0) chosen in
         q ∙ rw (g, sizes, window) refl
 
-module _ {t : List ℕ} {n₁ n₂ work : ℕ} {stores : ℕ} {pairs : Size} (P : Paired t n₁ n₂ work) (own : stores ≤ 9007199254740992)
+module _ {t outline : List ℕ} {n₁ n₂ work : ℕ} {stores : ℕ} {pairs : Size} (P : Paired t outline n₁ n₂ work) (own : stores ≤ 9007199254740992)
     (text : pairs .text ≤ length (alternatives-of t n₁) * 4194304) (theirs : pairs .stores ≤ length (alternatives-of t n₁) * 18014398509481984) where
   pub row-size-text-fits : 0 + pairs .text ≤ 18446744073709551615
   row-size-text-fits = omega (arith, few-alternatives (seq1-node P))
@@ -164,7 +165,8 @@ module _ {t : List ℕ} {n₁ n₂ work : ℕ} {stores : ℕ} {pairs : Size} (P 
     row-size-stores = omega (arith, plus-stores (size 0 stores) pairs q)
 
 -- All of them.
-pub record AllSizes (t : List ℕ) (n₁ n₂ : ℕ) (work₀ work : List ℕ) (total : Size) (i : ℕ) : Type 0 where
+pub record AllSizes (t : List ℕ) (n₁ n₂ count : ℕ) (work₀ work : List ℕ) (total : Size) (i : ℕ) : Type 0 where
+  pub counted : count ≡ length (alternatives-of t n₂)
   pub turn : i ≤ length (alternatives-of t n₂)
   pub low-text : total .text ≤ (i * length (alternatives-of t n₁) + i) * 4194304
   pub low-stores : total .stores ≤ (i * length (alternatives-of t n₁) + i) * 18014398509481984
@@ -172,12 +174,13 @@ pub record AllSizes (t : List ℕ) (n₁ n₂ : ℕ) (work₀ work : List ℕ) (
   pub register : all-registers (alternatives-of t n₁) (drop i (alternatives-of t n₂)) ≤ all-registers (alternatives-of t n₁) (alternatives-of t n₂)
   pub rest : all-size (alternatives-of t n₁) (alternatives-of t n₂) ≡ plus total (all-size (alternatives-of t n₁) (drop i (alternatives-of t n₂)))
 
-pub all-sizes-begin : (t : List ℕ) (n₁ n₂ : ℕ) (work : List ℕ) → AllSizes t n₁ n₂ work work (size 0 0) 0
-all-sizes-begin t n₁ n₂ work =
-    record { turn = omega arith; low-text = omega arith; low-stores = omega arith; long = refl; register = omega arith; rest = sym (plus-none _) }
+pub all-sizes-begin : {t : List ℕ} (n₁ : ℕ) {n₂ count : ℕ} (work : List ℕ) → count ≡ length (alternatives-of t n₂)
+    → AllSizes t n₁ n₂ count work work (size 0 0) 0
+all-sizes-begin n₁ work c =
+    record { counted = c; turn = omega arith; low-text = omega arith; low-stores = omega arith; long = refl; register = omega arith; rest = sym (plus-none _) }
 
-module _ {t : List ℕ} {n₁ n₂ : ℕ} {work₀ work : List ℕ} {total : Size} {i count : ℕ} (c : count ≡ length (alternatives-of t n₂))
-    (S : AllSizes t n₁ n₂ work₀ work total i) where
+module _ {t : List ℕ} {n₁ n₂ : ℕ} {work₀ work : List ℕ} {total : Size} {i count : ℕ}
+    (S : AllSizes t n₁ n₂ count work₀ work total i) where
   abbrev xs : List SeqAlt
   xs = alternatives-of t n₁
 
@@ -186,7 +189,7 @@ module _ {t : List ℕ} {n₁ n₂ : ℕ} {work₀ work : List ℕ} {total : Siz
 
   module _ (h : i < count) where
     row-next : drop i (alternatives-of t n₂) ≡ nth (alternatives-of t n₂) i ∷ drop (i + 1) (alternatives-of t n₂)
-    row-next = rest-of (alternatives-of t n₂) i (omega arith)
+    row-next = rest-of (alternatives-of t n₂) i (omega (arith, S .counted))
 
     row-registers-next : all-registers xs (drop i (alternatives-of t n₂)) ≡ row-registers xs row + all-registers xs (drop (i + 1) (alternatives-of t n₂))
     unfolding all-registers
@@ -201,20 +204,21 @@ module _ {t : List ℕ} {n₁ n₂ : ℕ} {work₀ work : List ℕ} {total : Siz
     all-sizes-small small = omega (arith, S .register, row-registers-next)
 
     module _ {z : Size} (text : z .text ≤ (length (alternatives-of t n₁) + 1) * 4194304) (stores : z .stores ≤ (length (alternatives-of t n₁) + 1) * 18014398509481984) where
-      pub all-sizes-text-fits : Paired t n₁ n₂ (length work₀) → total .text + z .text ≤ 18446744073709551615
+      pub all-sizes-text-fits : {outline : List ℕ} → Paired t outline n₁ n₂ (length work₀) → total .text + z .text ≤ 18446744073709551615
       all-sizes-text-fits P =
-          let product : (i + 1) * length xs ≤ length (alternatives-of t n₂) * length xs = mul-le-mul (omega arith) (le-refl _) in
-          omega (arith, S .low-text, few-alternatives (seq2-node P), P .pairs .few)
+          let product : (i + 1) * length xs ≤ length (alternatives-of t n₂) * length xs = mul-le-mul (omega (arith, S .counted)) (le-refl _) in
+          omega (arith, S .counted, S .low-text, few-alternatives (seq2-node P), P .pairs .few)
 
-      pub all-sizes-stores-fit : Paired t n₁ n₂ (length work₀) → total .stores + z .stores ≤ 18446744073709551615
+      pub all-sizes-stores-fit : {outline : List ℕ} → Paired t outline n₁ n₂ (length work₀) → total .stores + z .stores ≤ 18446744073709551615
       all-sizes-stores-fit P =
-          let product : (i + 1) * length xs ≤ length (alternatives-of t n₂) * length xs = mul-le-mul (omega arith) (le-refl _) in
-          omega (arith, S .low-stores, few-alternatives (seq2-node P), P .pairs .few)
+          let product : (i + 1) * length xs ≤ length (alternatives-of t n₂) * length xs = mul-le-mul (omega (arith, S .counted)) (le-refl _) in
+          omega (arith, S .counted, S .low-stores, few-alternatives (seq2-node P), P .pairs .few)
 
       pub all-sizes-on : {r : Size} {work₁ : List ℕ} → length work₁ ≡ length work → z ≡ row-size (alternatives-of t n₁) (nth (alternatives-of t n₂) i .steps) → r ≡ plus total z
-          → AllSizes t n₁ n₂ work₀ work₁ r (i + 1)
+          → AllSizes t n₁ n₂ count work₀ work₁ r (i + 1)
       all-sizes-on same e f = record {
-        turn = omega arith;
+        counted = S .counted;
+        turn = omega (arith, S .counted);
         low-text = omega (arith, S .low-text, plus-text total z f);
         low-stores = omega (arith, S .low-stores, plus-stores total z f);
         long = same ∙ S .long;
@@ -225,9 +229,9 @@ module _ {t : List ℕ} {n₁ n₂ : ℕ} {work₀ work : List ℕ} {total : Siz
   module _ (h : count ≤ i) where
     pub all-sizes-end : total ≡ all-size (alternatives-of t n₁) (alternatives-of t n₂)
     unfolding all-size
-    all-sizes-end = sym (S .rest ∙ rw (drop-of-length-le (alternatives-of t n₂) {i = i} (omega arith)) (none-plus total))
+    all-sizes-end = sym (S .rest ∙ rw (drop-of-length-le (alternatives-of t n₂) {i = i} (omega (arith, S .counted))) (none-plus total))
 
-    module _ (P : Paired t n₁ n₂ (length work₀)) where
+    module _ {outline : List ℕ} (P : Paired t outline n₁ n₂ (length work₀)) where
       pairs-few : i * length xs + i ≤ 512
       pairs-few =
           let product : i * length xs ≤ length (alternatives-of t n₂) * length xs = mul-le-mul (omega (arith, S .turn)) (le-refl _) in

@@ -6,7 +6,7 @@ use Prim.Native.Nat.{ℕ, _+_, _-_, _<_, _≤_}
 use native.Mathlib.Nat.{sub-self}
 use native.Mathlib.Omega.{arith}
 use lib.Dec.{eqb}
-use lib.ListN.{length, take, drop, length-append, drop-of-length-le}
+use lib.ListN.{length, take, drop, length-append}
 use borrow.Author.Tests.{eq-eqb, eqb-true}
 use Rattle.words.specs.Choice.{pick-true, pick-case}
 use Rattle.words.specs.Written.{Wrote}
@@ -20,15 +20,14 @@ use Rattle.meaning.specs.declared.SeqStep.{SeqStep}
 use Rattle.expand.specs.ByNumber.{alternatives-of, nth, alternative-words}
 use Rattle.pair.specs.Stored.{steps-in, Kept}
 use Rattle.pair.specs.Pairs.{registers-in, text-in, fits-in, further, pair-text, taken-registers, taken-text}
-use Rattle.within.specs.AllPairs.{pairs-registers, pairs-texts, row-registers, row-texts, all-registers, all-texts, or-zero}
+use Rattle.within.specs.AllPairs.{pairs-registers, pairs-texts, row-registers, row-texts, all-texts, or-zero}
 use Rattle.choice.specs.Passes.{Marked}
 use Rattle.within.specs.Rows.{Placed, Paired}
 use Rattle.choice.specs.declared.Mark.{Mark}
 use Rattle.within.proofs.PairByPair.{words-stay}
-use Rattle.expand.proofs.Index.{rest-of}
 use Rattle.within.proofs.Rows.{placed-room, part-steps, front-kept, front-steps, seq2-placed}
-use Rattle.within.proofs.RegisterPass.{registers-rehop, window-rehop}
-use Rattle.within.proofs.StorePass.{part-registers, row-registers-are}
+use Rattle.within.proofs.RegisterPass.{nth-registers, front-window, front-registers, row-registers-are}
+use Rattle.within.proofs.Numbering.{PairNumbers, pair-numbers-begin, pair-next, pair-numbers-on, no-pair-left, pair-numbers-end, AllNumbers, all-numbers-begin, row-next, all-numbers-on, no-row-left}
 
 -- The hop of a first term is never used.
 taken-text-rehop : (h : SeqHop) (before l : ℕ) (match-2 : List ℕ) (ss : List SeqStep) (n : ℕ) → taken-text before l match-2 (rehop h ss) n ≡ taken-text before l match-2 ss n
@@ -42,8 +41,8 @@ text-rehop h [] n = refl
 text-rehop h (s ∷ ss) n = refl
 
 -- The alternative of seq1 that stands in work behind one of seq2, which stays as it was.
-module _ {t : List ℕ} {n place j : ℕ} {work work₁ : List ℕ} {end : ℕ} (P : Placed t n place (length work)) (h : j < length (alternatives-of t n))
-    (w : Wrote work work₁ place end (alternative-words (Fixed 0) (alternatives-of t n) j)) where
+module _ {t outline : List ℕ} {n place j : ℕ} {work work₁ : List ℕ} {end : ℕ} (P : Placed t outline n place (length work))
+    (h : j < length (alternatives-of t n)) (w : Wrote work work₁ place end (alternative-words (Fixed 0) (alternatives-of t n) j)) where
   pub front-stays : take place work₁ ≡ take place work
   front-stays = front-kept w (placed-room P h)
 
@@ -68,25 +67,23 @@ module _ {t : List ℕ} {n place j : ℕ} {work work₁ : List ℕ} {end : ℕ} 
         → Wrote o o₁ at p (taken-text before l (text-in (steps-in (take place work₁)) m) (steps-in (take (end - place) (drop place work₁))) x)
         → Marked o o₁ at (record { place = p; register = x + r }) (taken-text before l (text-in (steps-in (take place work)) m) (nth (alternatives-of t n) j .steps) x)
         (x + taken-registers l (nth (alternatives-of t n) j .steps))
-    part-text-done e u = record { wrote = same-words part-text u; onward = ap (λ (k : ℕ). x + k) (e ∙ part-registers l P h w) }
+    part-text-done e u = record { wrote = same-words part-text u; onward = ap (λ (k : ℕ). x + k) (nth-registers l P h w e) }
 
 -- The pairs of one alternative of seq2, which stands in front of the place.
-pub record PairTexts (t : List ℕ) (n l m x place start : ℕ) (work₀ work o : List ℕ) (at : ℕ) (o′ : List ℕ) (p r j : ℕ) : Type 0 where
-  pub turn : j ≤ length (alternatives-of t n)
-  pub long : length work ≡ length work₀
+pub record PairTexts (t : List ℕ) (n l m x place start count : ℕ) (work₀ work o : List ℕ) (at : ℕ) (o′ : List ℕ) (p r j : ℕ) : Type 0 where
+  pub numbers : PairNumbers t n l x count work₀ work r j
   pub front : take place work ≡ take place work₀
   pub begun : start ≤ p
-  pub register : r + pairs-registers l (drop j (alternatives-of t n)) ≡ x + pairs-registers l (alternatives-of t n)
   pub going : Going o at (pairs-texts (at - start) l (text-in (steps-in (take place work₀)) m) (alternatives-of t n) x) o′ p
       (pairs-texts (p - start) l (text-in (steps-in (take place work₀)) m) (drop j (alternatives-of t n)) r)
 
-pub pair-texts-begin : (t : List ℕ) (n l m x place start : ℕ) (work o : List ℕ) (at : ℕ) → start ≤ at
-    → PairTexts t n l m x place start work work o at o at x 0
-pair-texts-begin t n l m x place start work o at h =
-    record { turn = omega arith; long = refl; front = refl; begun = h; register = refl; going = begin o at _ }
+pub pair-texts-begin : {t : List ℕ} {n count : ℕ} (l m x place start : ℕ) (work o : List ℕ) (at : ℕ) → count ≡ length (alternatives-of t n) → start ≤ at
+    → PairTexts t n l m x place start count work work o at o at x 0
+pair-texts-begin l m x place start work o at c h =
+    record { numbers = pair-numbers-begin l x work c; front = refl; begun = h; going = begin o at _ }
 
-module _ {t : List ℕ} {n l m x place start : ℕ} {work₀ work o : List ℕ} {at : ℕ} {o′ : List ℕ} {p r j count : ℕ} (c : count ≡ length (alternatives-of t n))
-    (S : PairTexts t n l m x place start work₀ work o at o′ p r j) where
+module _ {t : List ℕ} {n l m x place start : ℕ} {work₀ work o : List ℕ} {at : ℕ} {o′ : List ℕ} {p r j count : ℕ}
+    (S : PairTexts t n l m x place start count work₀ work o at o′ p r j) where
   pub texts-front-kept : Kept (take place work₀) → Kept (take place work)
   texts-front-kept K = rw (S .front) K
 
@@ -97,22 +94,12 @@ module _ {t : List ℕ} {n l m x place start : ℕ} {work₀ work o : List ℕ} 
     abbrev text : List ℕ → List ℕ
     text front = taken-text (p - start) l (text-in (steps-in front) m) (nth (alternatives-of t n) j .steps) r
 
-    here : j < length (alternatives-of t n)
-    here = omega arith
-
-    register-next : r + taken-registers l (nth (alternatives-of t n) j .steps) + pairs-registers l (drop (j + 1) (alternatives-of t n)) ≡ x + pairs-registers l (alternatives-of t n)
-    unfolding pairs-registers
-    register-next = omega (arith, S .register, ap (pairs-registers l) (rest-of (alternatives-of t n) j here))
-
     words-next : pairs-texts (p - start) l (text-in (steps-in (take place work₀)) m) (drop j (alternatives-of t n)) r
         ≡ text (take place work₀)
         ++ pairs-texts (p - start + length (text (take place work₀))) l (text-in (steps-in (take place work₀)) m) (drop (j + 1) (alternatives-of t n))
         (r + taken-registers l (nth (alternatives-of t n) j .steps))
     unfolding pairs-texts
-    words-next = ap (λ (ys : List SeqAlt). pairs-texts (p - start) l (text-in (steps-in (take place work₀)) m) ys r) (rest-of (alternatives-of t n) j here)
-
-    pub pair-texts-small : x + pairs-registers l (alternatives-of t n) ≤ 65536 → r + taken-registers l (nth (alternatives-of t n) j .steps) ≤ 65536
-    pair-texts-small small = omega (arith, register-next)
+    words-next = ap (λ (ys : List SeqAlt). pairs-texts (p - start) l (text-in (steps-in (take place work₀)) m) ys r) (pair-next (S .numbers) h)
 
     pub pair-texts-room : at + length (pairs-texts (at - start) l (text-in (steps-in (take place work₀)) m) (alternatives-of t n) x) ≤ length o
         → p + length (taken-text (p - start) l (text-in (steps-in (take place work)) m) (nth (alternatives-of t n) j .steps) r) ≤ length o′
@@ -130,41 +117,35 @@ module _ {t : List ℕ} {n l m x place start : ℕ} {work₀ work o : List ℕ} 
     pub pair-texts-on : {k : Mark} {work₁ o₁ : List ℕ} → length work₁ ≡ length work
         → Marked o′ o₁ p k (taken-text (p - start) l (text-in (steps-in (take place work)) m) (nth (alternatives-of t n) j .steps) r) (r + taken-registers l (nth (alternatives-of t n) j .steps))
         → take place work₁ ≡ take place work
-        → PairTexts t n l m x place start work₀ work₁ o at o₁ (k .place) (k .register) (j + 1)
+        → PairTexts t n l m x place start count work₀ work₁ o at o₁ (k .place) (k .register) (j + 1)
     pair-texts-on {k} {work₁} {o₁} same M stays =
         let same-text : text (take place work) ≡ text (take place work₀) = ap text (S .front) in
         let u : Wrote o′ o₁ p (k .place) (text (take place work₀)) = same-words same-text (M .wrote) in
         let before : p - start + length (text (take place work₀)) ≡ k .place - start = omega (arith, u .ends, S .begun) in
         record {
-          turn = omega arith;
-          long = same ∙ S .long;
+          numbers = pair-numbers-on (S .numbers) h same (M .onward);
           front = stays ∙ S .front;
           begun = omega (arith, u .ends, S .begun);
-          register = rw (M .onward) register-next;
           going = rw (M .onward, ← before) (go (text (take place work₀)) _ (rw words-next at (S .going)) u);
         }
 
   pub pair-texts-end : count ≤ j
       → Marked o o′ at (record { place = p; register = r }) (pairs-texts (at - start) l (text-in (steps-in (take place work₀)) m) (alternatives-of t n) x) (x + pairs-registers l (alternatives-of t n))
-  unfolding pairs-texts pairs-registers
-  pair-texts-end h =
-      let none : drop j (alternatives-of t n) ≡ [] = drop-of-length-le (alternatives-of t n) {i = j} (omega arith) in
-      record { wrote = done (rw none at (S .going)); onward = omega (arith, S .register, ap (pairs-registers l) none) }
+  unfolding pairs-texts
+  pair-texts-end h = record { wrote = done (rw (no-pair-left (S .numbers) h) at (S .going)); onward = pair-numbers-end (S .numbers) h }
 
 -- One alternative of seq2 in front, and its pairs.
-module _ {t : List ℕ} {n₁ n₂ i : ℕ} {work work₁ : List ℕ} {end : ℕ} (P : Paired t n₁ n₂ (length work)) (h : i < length (alternatives-of t n₂))
+module _ {t outline : List ℕ} {n₁ n₂ i : ℕ} {work work₁ : List ℕ} {end : ℕ} (P : Paired t outline n₁ n₂ (length work)) (h : i < length (alternatives-of t n₂))
     (w : Wrote work work₁ 0 end (alternative-words (Fixed 0) (alternatives-of t n₂) i)) {l own : ℕ} (e : l ≡ window-len (steps-in (take end work₁)))
     (f : own ≡ registers-in (steps-in (take end work₁))) (x : ℕ) where
   row-texts-are : (before : ℕ) → row-texts before (alternatives-of t n₁) (nth (alternatives-of t n₂) i .steps) x
       ≡ pairs-texts before l (text-in (steps-in (take end work₁)) x) (alternatives-of t n₁) (x + own)
   unfolding row-texts
   row-texts-are before =
-      let s = front-steps (seq2-placed P) h w in
       let chosen = nth (alternatives-of t n₂) i .steps in
-      let window : l ≡ window-len chosen = e ∙ ap window-len s ∙ window-rehop (Fixed 0) chosen in
-      let registers : own ≡ registers-in chosen = f ∙ ap registers-in s ∙ registers-rehop (Fixed 0) chosen in
-      let text : text-in (steps-in (take end work₁)) x ≡ text-in chosen x = ap (λ (ss : List SeqStep). text-in ss x) s ∙ text-rehop (Fixed 0) chosen x in
-      sym (rw (window, registers, text) refl)
+      let text : text-in (steps-in (take end work₁)) x ≡ text-in chosen x =
+      ap (λ (ss : List SeqStep). text-in ss x) (front-steps (seq2-placed P) h w) ∙ text-rehop (Fixed 0) chosen x in
+      sym (rw (e, f, front-window P h w, front-registers P h w, text) refl)
 
   pub row-texts-room : (before at : ℕ) {size : ℕ} → at + length (row-texts before (alternatives-of t n₁) (nth (alternatives-of t n₂) i .steps) x) ≤ size
       → at + length (pairs-texts before l (text-in (steps-in (take end work₁)) x) (alternatives-of t n₁) (x + own)) ≤ size
@@ -176,19 +157,18 @@ module _ {t : List ℕ} {n₁ n₂ i : ℕ} {work work₁ : List ℕ} {end : ℕ
   row-texts-done before M = record { wrote = same-words (sym (row-texts-are before)) (M .wrote); onward = omega (arith, M .onward, row-registers-are P h w e f) }
 
 -- All of them; the match begins where the writing does.
-pub record AllTexts (t : List ℕ) (n₁ n₂ first : ℕ) (work₀ work o : List ℕ) (at : ℕ) (o′ : List ℕ) (p r i : ℕ) : Type 0 where
-  pub turn : i ≤ length (alternatives-of t n₂)
-  pub long : length work ≡ length work₀
+pub record AllTexts (t : List ℕ) (n₁ n₂ first count : ℕ) (work₀ work o : List ℕ) (at : ℕ) (o′ : List ℕ) (p r i : ℕ) : Type 0 where
+  pub numbers : AllNumbers t n₁ n₂ first count work₀ work r i
   pub begun : at ≤ p
-  pub register : r + all-registers (alternatives-of t n₁) (drop i (alternatives-of t n₂)) ≡ first + all-registers (alternatives-of t n₁) (alternatives-of t n₂)
   pub going : Going o at (all-texts 0 (alternatives-of t n₁) (alternatives-of t n₂) first) o′ p (all-texts (p - at) (alternatives-of t n₁) (drop i (alternatives-of t n₂)) r)
 
-pub all-texts-begin : (t : List ℕ) (n₁ n₂ first : ℕ) (work o : List ℕ) (at : ℕ) → AllTexts t n₁ n₂ first work work o at o at first 0
-all-texts-begin t n₁ n₂ first work o at =
-    record { turn = omega arith; long = refl; begun = omega arith; register = refl; going = rw (sub-self at) (begin o at _) }
+pub all-texts-begin : {t : List ℕ} (n₁ : ℕ) {n₂ count : ℕ} (first : ℕ) (work o : List ℕ) (at : ℕ) → count ≡ length (alternatives-of t n₂)
+    → AllTexts t n₁ n₂ first count work work o at o at first 0
+all-texts-begin n₁ first work o at c =
+    record { numbers = all-numbers-begin n₁ first work c; begun = omega arith; going = rw (sub-self at) (begin o at _) }
 
-module _ {t : List ℕ} {n₁ n₂ first : ℕ} {work₀ work o : List ℕ} {at : ℕ} {o′ : List ℕ} {p r i count : ℕ} (c : count ≡ length (alternatives-of t n₂))
-    (S : AllTexts t n₁ n₂ first work₀ work o at o′ p r i) where
+module _ {t : List ℕ} {n₁ n₂ first : ℕ} {work₀ work o : List ℕ} {at : ℕ} {o′ : List ℕ} {p r i count : ℕ}
+    (S : AllTexts t n₁ n₂ first count work₀ work o at o′ p r i) where
   module _ (h : i < count) where
     abbrev xs : List SeqAlt
     xs = alternatives-of t n₁
@@ -196,21 +176,10 @@ module _ {t : List ℕ} {n₁ n₂ first : ℕ} {work₀ work o : List ℕ} {at 
     abbrev row : List SeqStep
     row = nth (alternatives-of t n₂) i .steps
 
-    inside : i < length (alternatives-of t n₂)
-    inside = omega arith
-
-    row-register-next : r + row-registers xs row + all-registers xs (drop (i + 1) (alternatives-of t n₂)) ≡ first + all-registers xs (alternatives-of t n₂)
-    unfolding all-registers
-    row-register-next = omega (arith, S .register, ap (all-registers xs) (rest-of (alternatives-of t n₂) i inside))
-
     row-words-next : all-texts (p - at) xs (drop i (alternatives-of t n₂)) r
         ≡ row-texts (p - at) xs row r ++ all-texts (p - at + length (row-texts (p - at) xs row r)) xs (drop (i + 1) (alternatives-of t n₂)) (r + row-registers xs row)
     unfolding all-texts
-    row-words-next = ap (λ (ys : List SeqAlt). all-texts (p - at) xs ys r) (rest-of (alternatives-of t n₂) i inside)
-
-    pub all-texts-small : first + all-registers (alternatives-of t n₁) (alternatives-of t n₂) ≤ 65536
-        → r + row-registers (alternatives-of t n₁) (nth (alternatives-of t n₂) i .steps) ≤ 65536
-    all-texts-small small = omega (arith, row-register-next)
+    row-words-next = ap (λ (ys : List SeqAlt). all-texts (p - at) xs ys r) (row-next (S .numbers) h)
 
     pub all-texts-room : at + length (all-texts 0 (alternatives-of t n₁) (alternatives-of t n₂) first) ≤ length o
         → p + length (row-texts (p - at) (alternatives-of t n₁) (nth (alternatives-of t n₂) i .steps) r) ≤ length o′
@@ -226,20 +195,18 @@ module _ {t : List ℕ} {n₁ n₂ first : ℕ} {work₀ work o : List ℕ} {at 
 
     pub all-texts-on : {k : Mark} {work₁ o₁ : List ℕ} → length work₁ ≡ length work
         → Marked o′ o₁ p k (row-texts (p - at) (alternatives-of t n₁) (nth (alternatives-of t n₂) i .steps) r) (r + row-registers (alternatives-of t n₁) (nth (alternatives-of t n₂) i .steps))
-        → AllTexts t n₁ n₂ first work₀ work₁ o at o₁ (k .place) (k .register) (i + 1)
+        → AllTexts t n₁ n₂ first count work₀ work₁ o at o₁ (k .place) (k .register) (i + 1)
     all-texts-on {k} same M =
         let before : p - at + length (row-texts (p - at) xs row r) ≡ k .place - at = omega (arith, M .wrote .ends, S .begun) in
         record {
-          turn = omega arith;
-          long = same ∙ S .long;
+          numbers = all-numbers-on (S .numbers) h same (M .onward);
           begun = omega (arith, M .wrote .ends, S .begun);
-          register = rw (M .onward) row-register-next;
           going = rw (M .onward, ← before) (go (row-texts (p - at) xs row r) _ (rw row-words-next at (S .going)) (M .wrote));
         }
 
   pub all-texts-end : count ≤ i → Wrote o o′ at p (all-texts 0 (alternatives-of t n₁) (alternatives-of t n₂) first)
   unfolding all-texts
-  all-texts-end h = done (rw (drop-of-length-le (alternatives-of t n₂) {i = i} (omega arith)) at (S .going))
+  all-texts-end h = done (rw (no-row-left (S .numbers) h) at (S .going))
 
 -- "no pair left gives 0": nothing was written.
 nil-of : (ws : List ℕ) → length ws ≡ 0 → ws ≡ []

@@ -6,18 +6,23 @@ use Rattle.meaning.specs.Tree.{tree-at, nodes}
 use Rattle.meaning.specs.Refusals.{entries, room-of}
 use Rattle.meaning.specs.Lowerable.{FormedTable, Walkable, Pairable}
 use Rattle.expand.specs.ByNumber.{alternatives-of, Expandable}
+use Rattle.expand.specs.Outline.{Known}
 
--- Both operands of a root within that the table's checks and the walk let pass with so many words of work.
-pub record Paired (t : List ℕ) (n₁ n₂ work : ℕ) : Type 0 where
+-- Both operands of a root within that the table's checks and the walk let pass with so many words of work, and whose outlines
+-- are known.
+pub record Paired (t o : List ℕ) (n₁ n₂ work : ℕ) : Type 0 where
   pub formed : FormedTable t
   pub one-inside : n₁ < nodes t
   pub two-inside : n₂ < nodes t
   pub one : Walkable (room-of work) (tree-at t n₁)
   pub two : Walkable (room-of work) (tree-at t n₂)
+  pub one-known : Known t o n₁
+  pub two-known : Known t o n₂
   pub pairs : Pairable (room-of work) (alternatives-of t n₁) (alternatives-of t n₂)
 
--- Each alternative of node n can stand in so many words of work, from the place on.
-pub record Placed (t : List ℕ) (n place work : ℕ) : Type 0 where
+-- Each alternative of node n, whose outline is known, can stand in so many words of work, from the place on.
+pub record Placed (t o : List ℕ) (n place work : ℕ) : Type 0 where
   pub node : Expandable t n
+  pub known : Known t o n
   pub room : place + entries (alternatives-of t n) * 5 ≤ work
   pub few : entries (alternatives-of t n) ≤ 65536

@@ -21,53 +21,68 @@ ghost use Rattle.within.specs.Rows.{Placed, Paired};
 const MATCH: u32 = 14 * step_text::ATOM;
 
 // The registers of the j-th alternative of seq1 beside one of seq2, whose window is l and whose steps end at the place.
-fn nth_pair_registers(t: &[u32], n1: u32, j: u32, l: u64, place: usize, work: &mut [u32]) -> u64
-    requires { ⌜ Placed (now t) n1 place (length (now work)) × (j < length (alternatives-of (now t) n1)) × (l ≤ 281474976710656) ⌝ }
+fn nth_pair_registers(
+    t: &[u32],
+    outline: &[u32],
+    n1: u32,
+    j: u32,
+    l: u64,
+    place: usize,
+    work: &mut [u32],
+) -> u64
+    requires { ⌜ Placed (now t) (now outline) n1 place (length (now work)) × (j < length (alternatives-of (now t) n1)) × (l ≤ 281474976710656) ⌝ }
     ensures { λ r. ⌜ r ≡ taken-registers l (nth (alternatives-of (now (t .entry)) n1) j .steps) ⌝ }
     ensures small { λ r. ⌜ r ≤ 844424930131968 ⌝ }
 {
-    let end = expand::alternative(t, n1, j, meaning::SeqHop::Fixed(0), work, place);
+    let end = expand::alternative(t, outline, n1, j, meaning::SeqHop::Fixed(0), work, place);
     pair::pair_registers(&work[place..end], l)
 }
 
 // The registers of all of them.
-fn pairs_registers(t: &[u32], n1: u32, l: u64, place: usize, work: &mut [u32]) -> u64
-    requires { ⌜ Placed (now t) n1 place (length (now work)) × (l ≤ 281474976710656) ⌝ }
+fn pairs_registers(
+    t: &[u32],
+    outline: &[u32],
+    n1: u32,
+    l: u64,
+    place: usize,
+    work: &mut [u32],
+) -> u64
+    requires { ⌜ Placed (now t) (now outline) n1 place (length (now work)) × (l ≤ 281474976710656) ⌝ }
     ensures { λ r. ⌜ r ≡ pairs-registers l (alternatives-of (now (t .entry)) n1) ⌝ }
     ensures small { λ r. ⌜ r ≤ length (alternatives-of (now (t .entry)) n1) * 844424930131968 ⌝ }
 {
-    let count = expand::alternatives(t, n1);
+    let count = expand::count_of(outline, n1);
     let mut total: u64 = 0;
     let mut j = 0;
     while j < count {
-        total += nth_pair_registers(t, n1, j, l, place, work);
+        total += nth_pair_registers(t, outline, n1, j, l, place, work);
         j += 1;
     }
     total
 }
 
 // The registers of the i-th alternative of seq2 and of its pairs.
-fn row_registers(t: &[u32], n1: u32, n2: u32, i: u32, work: &mut [u32]) -> u64
-    requires { ⌜ Paired (now t) n1 n2 (length (now work)) × (i < length (alternatives-of (now t) n2)) ⌝ }
+fn row_registers(t: &[u32], outline: &[u32], n1: u32, n2: u32, i: u32, work: &mut [u32]) -> u64
+    requires { ⌜ Paired (now t) (now outline) n1 n2 (length (now work)) × (i < length (alternatives-of (now t) n2)) ⌝ }
     ensures { λ r. ⌜ r ≡ row-registers (alternatives-of (now (t .entry)) n1) (nth (alternatives-of (now (t .entry)) n2) i .steps) ⌝ }
     ensures small { λ r. ⌜ r ≤ (length (alternatives-of (now (t .entry)) n1) + 1) * 844424930131968 ⌝ }
 {
-    let end = expand::alternative(t, n2, i, meaning::SeqHop::Fixed(0), work, 0);
+    let end = expand::alternative(t, outline, n2, i, meaning::SeqHop::Fixed(0), work, 0);
     let l = pair::window_len(&work[..end]);
     let own = pair::registers_of(&work[..end]);
-    own + pairs_registers(t, n1, l, end, work)
+    own + pairs_registers(t, outline, n1, l, end, work)
 }
 
 // All registers of a within: those of seq2's alternatives, of seq1's in every pair that fits, and of the delays.
-pub fn registers(t: &[u32], n1: u32, n2: u32, work: &mut [u32]) -> u64
-    requires { ⌜ Paired (now t) n1 n2 (length (now work)) ⌝ }
+pub fn registers(t: &[u32], outline: &[u32], n1: u32, n2: u32, work: &mut [u32]) -> u64
+    requires { ⌜ Paired (now t) (now outline) n1 n2 (length (now work)) ⌝ }
     ensures { λ r. ⌜ r ≡ all-registers (alternatives-of (now (t .entry)) n1) (alternatives-of (now (t .entry)) n2) ⌝ }
 {
-    let count = expand::alternatives(t, n2);
+    let count = expand::count_of(outline, n2);
     let mut total: u64 = 0;
     let mut i = 0;
     while i < count {
-        total += row_registers(t, n1, n2, i, work);
+        total += row_registers(t, outline, n1, n2, i, work);
         i += 1;
     }
     total
@@ -76,6 +91,7 @@ pub fn registers(t: &[u32], n1: u32, n2: u32, work: &mut [u32]) -> u64
 // The assignments of the j-th alternative of seq1 beside one of seq2 whose window is l.
 fn nth_pair_stores(
     t: &[u32],
+    outline: &[u32],
     n1: u32,
     j: u32,
     l: u64,
@@ -85,10 +101,10 @@ fn nth_pair_stores(
     out: &mut [u32],
     at: usize,
 ) -> choice::Mark
-    requires { ⌜ Placed (now t) n1 place (length (now work)) × (j < length (alternatives-of (now t) n1)) × (l ≤ 281474976710656) × (n + taken-registers l (nth (alternatives-of (now t) n1) j .steps) ≤ 65536) × (at + length (taken-stores l (nth (alternatives-of (now t) n1) j .steps) n) ≤ length (now out)) ⌝ }
+    requires { ⌜ Placed (now t) (now outline) n1 place (length (now work)) × (j < length (alternatives-of (now t) n1)) × (l ≤ 281474976710656) × (n + taken-registers l (nth (alternatives-of (now t) n1) j .steps) ≤ 65536) × (at + length (taken-stores l (nth (alternatives-of (now t) n1) j .steps) n) ≤ length (now out)) ⌝ }
     ensures { λ m. ⌜ Marked (now (out .entry)) (now (out .exit)) at m (taken-stores l (nth (alternatives-of (now (t .entry)) n1) j .steps) n) (n + taken-registers l (nth (alternatives-of (now (t .entry)) n1) j .steps)) ⌝ }
 {
-    let end = expand::alternative(t, n1, j, meaning::SeqHop::Fixed(0), work, place);
+    let end = expand::alternative(t, outline, n1, j, meaning::SeqHop::Fixed(0), work, place);
     let r = pair::pair_registers(&work[place..end], l);
     let p = pair::pair_stores(&work[place..end], l, n, out, at);
     choice::Mark {
@@ -100,6 +116,7 @@ fn nth_pair_stores(
 // The assignments of all of them.
 fn pairs_stores(
     t: &[u32],
+    outline: &[u32],
     n1: u32,
     l: u64,
     n: u32,
@@ -108,15 +125,15 @@ fn pairs_stores(
     out: &mut [u32],
     at: usize,
 ) -> choice::Mark
-    requires { ⌜ Placed (now t) n1 place (length (now work)) × (l ≤ 281474976710656) × (n + pairs-registers l (alternatives-of (now t) n1) ≤ 65536) × (at + length (pairs-stores l (alternatives-of (now t) n1) n) ≤ length (now out)) ⌝ }
+    requires { ⌜ Placed (now t) (now outline) n1 place (length (now work)) × (l ≤ 281474976710656) × (n + pairs-registers l (alternatives-of (now t) n1) ≤ 65536) × (at + length (pairs-stores l (alternatives-of (now t) n1) n) ≤ length (now out)) ⌝ }
     ensures { λ m. ⌜ Marked (now (out .entry)) (now (out .exit)) at m (pairs-stores l (alternatives-of (now (t .entry)) n1) n) (n + pairs-registers l (alternatives-of (now (t .entry)) n1)) ⌝ }
 {
-    let count = expand::alternatives(t, n1);
+    let count = expand::count_of(outline, n1);
     let mut p = at;
     let mut r = n;
     let mut j = 0;
     while j < count {
-        let m = nth_pair_stores(t, n1, j, l, r, place, work, out, p);
+        let m = nth_pair_stores(t, outline, n1, j, l, r, place, work, out, p);
         p = m.place;
         r = m.register;
         j += 1;
@@ -130,6 +147,7 @@ fn pairs_stores(
 // The assignments of the i-th alternative of seq2 and of its pairs.
 fn row_stores(
     t: &[u32],
+    outline: &[u32],
     n1: u32,
     n2: u32,
     i: u32,
@@ -138,19 +156,20 @@ fn row_stores(
     out: &mut [u32],
     at: usize,
 ) -> choice::Mark
-    requires { ⌜ Paired (now t) n1 n2 (length (now work)) × (i < length (alternatives-of (now t) n2)) × (n + row-registers (alternatives-of (now t) n1) (nth (alternatives-of (now t) n2) i .steps) ≤ 65536) × (at + length (row-stores (alternatives-of (now t) n1) (nth (alternatives-of (now t) n2) i .steps) n) ≤ length (now out)) ⌝ }
+    requires { ⌜ Paired (now t) (now outline) n1 n2 (length (now work)) × (i < length (alternatives-of (now t) n2)) × (n + row-registers (alternatives-of (now t) n1) (nth (alternatives-of (now t) n2) i .steps) ≤ 65536) × (at + length (row-stores (alternatives-of (now t) n1) (nth (alternatives-of (now t) n2) i .steps) n) ≤ length (now out)) ⌝ }
     ensures { λ m. ⌜ Marked (now (out .entry)) (now (out .exit)) at m (row-stores (alternatives-of (now (t .entry)) n1) (nth (alternatives-of (now (t .entry)) n2) i .steps) n) (n + row-registers (alternatives-of (now (t .entry)) n1) (nth (alternatives-of (now (t .entry)) n2) i .steps)) ⌝ }
 {
-    let end = expand::alternative(t, n2, i, meaning::SeqHop::Fixed(0), work, 0);
+    let end = expand::alternative(t, outline, n2, i, meaning::SeqHop::Fixed(0), work, 0);
     let l = pair::window_len(&work[..end]);
     let r = n + pair::registers_of(&work[..end]) as u32;
     let a = pair::stores_of(&work[..end], n, out, at);
-    pairs_stores(t, n1, l, r, end, work, out, a)
+    pairs_stores(t, outline, n1, l, r, end, work, out, a)
 }
 
 // All assignments of a within, registers numbered from `first` on.
 fn put_stores(
     t: &[u32],
+    outline: &[u32],
     n1: u32,
     n2: u32,
     first: u32,
@@ -158,15 +177,15 @@ fn put_stores(
     out: &mut [u32],
     at: usize,
 ) -> usize
-    requires { ⌜ Paired (now t) n1 n2 (length (now work)) × (first + all-registers (alternatives-of (now t) n1) (alternatives-of (now t) n2) ≤ 65536) × (at + length (all-stores (alternatives-of (now t) n1) (alternatives-of (now t) n2) first) ≤ length (now out)) ⌝ }
+    requires { ⌜ Paired (now t) (now outline) n1 n2 (length (now work)) × (first + all-registers (alternatives-of (now t) n1) (alternatives-of (now t) n2) ≤ 65536) × (at + length (all-stores (alternatives-of (now t) n1) (alternatives-of (now t) n2) first) ≤ length (now out)) ⌝ }
     ensures { λ p. ⌜ Wrote (now (out .entry)) (now (out .exit)) at p (all-stores (alternatives-of (now (t .entry)) n1) (alternatives-of (now (t .entry)) n2) first) ⌝ }
 {
-    let count = expand::alternatives(t, n2);
+    let count = expand::count_of(outline, n2);
     let mut p = at;
     let mut r = first;
     let mut i = 0;
     while i < count {
-        let m = row_stores(t, n1, n2, i, r, work, out, p);
+        let m = row_stores(t, outline, n1, n2, i, r, work, out, p);
         p = m.place;
         r = m.register;
         i += 1;
@@ -178,6 +197,7 @@ fn put_stores(
 // The match begins at `start`.
 fn nth_pair_text(
     t: &[u32],
+    outline: &[u32],
     n1: u32,
     j: u32,
     l: u64,
@@ -189,11 +209,11 @@ fn nth_pair_text(
     out: &mut [u32],
     at: usize,
 ) -> choice::Mark
-    requires { ⌜ Placed (now t) n1 place (length (now work)) × (j < length (alternatives-of (now t) n1)) × (l ≤ 281474976710656) × (start ≤ at) × Kept (take place (now work)) × (m + registers-in (steps-in (take place (now work))) ≤ 65536) × (n + taken-registers l (nth (alternatives-of (now t) n1) j .steps) ≤ 65536) × (at + length (taken-text (at - start) l (text-in (steps-in (take place (now work))) m) (nth (alternatives-of (now t) n1) j .steps) n) ≤ length (now out)) ⌝ }
+    requires { ⌜ Placed (now t) (now outline) n1 place (length (now work)) × (j < length (alternatives-of (now t) n1)) × (l ≤ 281474976710656) × (start ≤ at) × Kept (take place (now work)) × (m + registers-in (steps-in (take place (now work))) ≤ 65536) × (n + taken-registers l (nth (alternatives-of (now t) n1) j .steps) ≤ 65536) × (at + length (taken-text (at - start) l (text-in (steps-in (take place (now work))) m) (nth (alternatives-of (now t) n1) j .steps) n) ≤ length (now out)) ⌝ }
     ensures { λ k. ⌜ Marked (now (out .entry)) (now (out .exit)) at k (taken-text (at - start) l (text-in (steps-in (take place (now (work .entry)))) m) (nth (alternatives-of (now (t .entry)) n1) j .steps) n) (n + taken-registers l (nth (alternatives-of (now (t .entry)) n1) j .steps)) ⌝ }
     ensures front { λ _. ⌜ take place (now (work .exit)) ≡ take place (now (work .entry)) ⌝ }
 {
-    let end = expand::alternative(t, n1, j, meaning::SeqHop::Fixed(0), work, place);
+    let end = expand::alternative(t, outline, n1, j, meaning::SeqHop::Fixed(0), work, place);
     let r = pair::pair_registers(&work[place..end], l);
     let p = pair::pair_text_in(work, place, end, m, l, n, at - start, out, at);
     choice::Mark {
@@ -205,6 +225,7 @@ fn nth_pair_text(
 // The texts of all of them.
 fn pairs_texts(
     t: &[u32],
+    outline: &[u32],
     n1: u32,
     l: u64,
     m: u32,
@@ -215,15 +236,15 @@ fn pairs_texts(
     out: &mut [u32],
     at: usize,
 ) -> choice::Mark
-    requires { ⌜ Placed (now t) n1 place (length (now work)) × (l ≤ 281474976710656) × (start ≤ at) × Kept (take place (now work)) × (m + registers-in (steps-in (take place (now work))) ≤ 65536) × (n + pairs-registers l (alternatives-of (now t) n1) ≤ 65536) × (at + length (pairs-texts (at - start) l (text-in (steps-in (take place (now work))) m) (alternatives-of (now t) n1) n) ≤ length (now out)) ⌝ }
+    requires { ⌜ Placed (now t) (now outline) n1 place (length (now work)) × (l ≤ 281474976710656) × (start ≤ at) × Kept (take place (now work)) × (m + registers-in (steps-in (take place (now work))) ≤ 65536) × (n + pairs-registers l (alternatives-of (now t) n1) ≤ 65536) × (at + length (pairs-texts (at - start) l (text-in (steps-in (take place (now work))) m) (alternatives-of (now t) n1) n) ≤ length (now out)) ⌝ }
     ensures { λ k. ⌜ Marked (now (out .entry)) (now (out .exit)) at k (pairs-texts (at - start) l (text-in (steps-in (take place (now (work .entry)))) m) (alternatives-of (now (t .entry)) n1) n) (n + pairs-registers l (alternatives-of (now (t .entry)) n1)) ⌝ }
 {
-    let count = expand::alternatives(t, n1);
+    let count = expand::count_of(outline, n1);
     let mut p = at;
     let mut r = n;
     let mut j = 0;
     while j < count {
-        let k = nth_pair_text(t, n1, j, l, m, r, place, start, work, out, p);
+        let k = nth_pair_text(t, outline, n1, j, l, m, r, place, start, work, out, p);
         p = k.place;
         r = k.register;
         j += 1;
@@ -237,6 +258,7 @@ fn pairs_texts(
 // The texts of the pairs of the i-th alternative of seq2.
 fn row_texts(
     t: &[u32],
+    outline: &[u32],
     n1: u32,
     n2: u32,
     i: u32,
@@ -246,18 +268,19 @@ fn row_texts(
     out: &mut [u32],
     at: usize,
 ) -> choice::Mark
-    requires { ⌜ Paired (now t) n1 n2 (length (now work)) × (i < length (alternatives-of (now t) n2)) × (start ≤ at) × (n + row-registers (alternatives-of (now t) n1) (nth (alternatives-of (now t) n2) i .steps) ≤ 65536) × (at + length (row-texts (at - start) (alternatives-of (now t) n1) (nth (alternatives-of (now t) n2) i .steps) n) ≤ length (now out)) ⌝ }
+    requires { ⌜ Paired (now t) (now outline) n1 n2 (length (now work)) × (i < length (alternatives-of (now t) n2)) × (start ≤ at) × (n + row-registers (alternatives-of (now t) n1) (nth (alternatives-of (now t) n2) i .steps) ≤ 65536) × (at + length (row-texts (at - start) (alternatives-of (now t) n1) (nth (alternatives-of (now t) n2) i .steps) n) ≤ length (now out)) ⌝ }
     ensures { λ k. ⌜ Marked (now (out .entry)) (now (out .exit)) at k (row-texts (at - start) (alternatives-of (now (t .entry)) n1) (nth (alternatives-of (now (t .entry)) n2) i .steps) n) (n + row-registers (alternatives-of (now (t .entry)) n1) (nth (alternatives-of (now (t .entry)) n2) i .steps)) ⌝ }
 {
-    let end = expand::alternative(t, n2, i, meaning::SeqHop::Fixed(0), work, 0);
+    let end = expand::alternative(t, outline, n2, i, meaning::SeqHop::Fixed(0), work, 0);
     let l = pair::window_len(&work[..end]);
     let r = n + pair::registers_of(&work[..end]) as u32;
-    pairs_texts(t, n1, l, n, r, end, start, work, out, at)
+    pairs_texts(t, outline, n1, l, n, r, end, start, work, out, at)
 }
 
 // The texts of all pairs.
 fn all_texts(
     t: &[u32],
+    outline: &[u32],
     n1: u32,
     n2: u32,
     first: u32,
@@ -265,15 +288,15 @@ fn all_texts(
     out: &mut [u32],
     at: usize,
 ) -> usize
-    requires { ⌜ Paired (now t) n1 n2 (length (now work)) × (first + all-registers (alternatives-of (now t) n1) (alternatives-of (now t) n2) ≤ 65536) × (at + length (all-texts 0 (alternatives-of (now t) n1) (alternatives-of (now t) n2) first) ≤ length (now out)) ⌝ }
+    requires { ⌜ Paired (now t) (now outline) n1 n2 (length (now work)) × (first + all-registers (alternatives-of (now t) n1) (alternatives-of (now t) n2) ≤ 65536) × (at + length (all-texts 0 (alternatives-of (now t) n1) (alternatives-of (now t) n2) first) ≤ length (now out)) ⌝ }
     ensures { λ p. ⌜ Wrote (now (out .entry)) (now (out .exit)) at p (all-texts 0 (alternatives-of (now (t .entry)) n1) (alternatives-of (now (t .entry)) n2) first) ⌝ }
 {
-    let count = expand::alternatives(t, n2);
+    let count = expand::count_of(outline, n2);
     let mut p = at;
     let mut r = first;
     let mut i = 0;
     while i < count {
-        let k = row_texts(t, n1, n2, i, r, at, work, out, p);
+        let k = row_texts(t, outline, n1, n2, i, r, at, work, out, p);
         p = k.place;
         r = k.register;
         i += 1;
@@ -284,6 +307,7 @@ fn all_texts(
 // The match of a within: its pairs ORed, or 0 where none fits.
 fn put_match(
     t: &[u32],
+    outline: &[u32],
     n1: u32,
     n2: u32,
     first: u32,
@@ -291,10 +315,10 @@ fn put_match(
     out: &mut [u32],
     at: usize,
 ) -> usize
-    requires { ⌜ Paired (now t) n1 n2 (length (now work)) × (first + all-registers (alternatives-of (now t) n1) (alternatives-of (now t) n2) ≤ 65536) × (at + length (or-zero (all-texts 0 (alternatives-of (now t) n1) (alternatives-of (now t) n2) first)) ≤ length (now out)) ⌝ }
+    requires { ⌜ Paired (now t) (now outline) n1 n2 (length (now work)) × (first + all-registers (alternatives-of (now t) n1) (alternatives-of (now t) n2) ≤ 65536) × (at + length (or-zero (all-texts 0 (alternatives-of (now t) n1) (alternatives-of (now t) n2) first)) ≤ length (now out)) ⌝ }
     ensures { λ p. ⌜ Wrote (now (out .entry)) (now (out .exit)) at p (or-zero (all-texts 0 (alternatives-of (now (t .entry)) n1) (alternatives-of (now (t .entry)) n2) first)) ⌝ }
 {
-    let p = all_texts(t, n1, n2, first, work, out, at);
+    let p = all_texts(t, outline, n1, n2, first, work, out, at);
     if p == at {
         return words::put(out, at, step_text::ZERO);
     }
@@ -315,6 +339,7 @@ fn plus(a: sizes::Size, b: sizes::Size) -> sizes::Size
 // The same of the j-th alternative of seq1.
 fn nth_pair_size(
     t: &[u32],
+    outline: &[u32],
     n1: u32,
     j: u32,
     l: u64,
@@ -322,25 +347,33 @@ fn nth_pair_size(
     place: usize,
     work: &mut [u32],
 ) -> sizes::Size
-    requires { ⌜ Placed (now t) n1 place (length (now work)) × (j < length (alternatives-of (now t) n1)) × (taken-registers l (nth (alternatives-of (now t) n1) j .steps) ≤ 65536) × (two ≤ 1048576) ⌝ }
+    requires { ⌜ Placed (now t) (now outline) n1 place (length (now work)) × (j < length (alternatives-of (now t) n1)) × (taken-registers l (nth (alternatives-of (now t) n1) j .steps) ≤ 65536) × (two ≤ 1048576) ⌝ }
     ensures { λ r. ⌜ r ≡ taken-size l two (nth (alternatives-of (now (t .entry)) n1) j .steps) ⌝ }
     ensures small { λ r. ⌜ (r .text ≤ 4194304) × (r .stores ≤ 18014398509481984) ⌝ }
 {
-    let end = expand::alternative(t, n1, j, meaning::SeqHop::Fixed(0), work, place);
+    let end = expand::alternative(t, outline, n1, j, meaning::SeqHop::Fixed(0), work, place);
     pair::pair_size(&work[place..end], l, two)
 }
 
 // Of all of them.
-fn pairs_size(t: &[u32], n1: u32, l: u64, two: u64, place: usize, work: &mut [u32]) -> sizes::Size
-    requires { ⌜ Placed (now t) n1 place (length (now work)) × (pairs-registers l (alternatives-of (now t) n1) ≤ 65536) × (two ≤ 1048576) ⌝ }
+fn pairs_size(
+    t: &[u32],
+    outline: &[u32],
+    n1: u32,
+    l: u64,
+    two: u64,
+    place: usize,
+    work: &mut [u32],
+) -> sizes::Size
+    requires { ⌜ Placed (now t) (now outline) n1 place (length (now work)) × (pairs-registers l (alternatives-of (now t) n1) ≤ 65536) × (two ≤ 1048576) ⌝ }
     ensures { λ r. ⌜ r ≡ pairs-size l two (alternatives-of (now (t .entry)) n1) ⌝ }
     ensures small { λ r. ⌜ (r .text ≤ length (alternatives-of (now (t .entry)) n1) * 4194304) × (r .stores ≤ length (alternatives-of (now (t .entry)) n1) * 18014398509481984) ⌝ }
 {
-    let count = expand::alternatives(t, n1);
+    let count = expand::count_of(outline, n1);
     let mut total = sizes::Size { text: 0, stores: 0 };
     let mut j = 0;
     while j < count {
-        let s = nth_pair_size(t, n1, j, l, two, place, work);
+        let s = nth_pair_size(t, outline, n1, j, l, two, place, work);
         total = plus(total, s);
         j += 1;
     }
@@ -348,15 +381,15 @@ fn pairs_size(t: &[u32], n1: u32, l: u64, two: u64, place: usize, work: &mut [u3
 }
 
 // Of the i-th alternative of seq2 and its pairs.
-fn row_size(t: &[u32], n1: u32, n2: u32, i: u32, work: &mut [u32]) -> sizes::Size
-    requires { ⌜ Paired (now t) n1 n2 (length (now work)) × (i < length (alternatives-of (now t) n2)) × (row-registers (alternatives-of (now t) n1) (nth (alternatives-of (now t) n2) i .steps) ≤ 65536) ⌝ }
+fn row_size(t: &[u32], outline: &[u32], n1: u32, n2: u32, i: u32, work: &mut [u32]) -> sizes::Size
+    requires { ⌜ Paired (now t) (now outline) n1 n2 (length (now work)) × (i < length (alternatives-of (now t) n2)) × (row-registers (alternatives-of (now t) n1) (nth (alternatives-of (now t) n2) i .steps) ≤ 65536) ⌝ }
     ensures { λ r. ⌜ r ≡ row-size (alternatives-of (now (t .entry)) n1) (nth (alternatives-of (now (t .entry)) n2) i .steps) ⌝ }
     ensures small { λ r. ⌜ (r .text ≤ (length (alternatives-of (now (t .entry)) n1) + 1) * 4194304) × (r .stores ≤ (length (alternatives-of (now (t .entry)) n1) + 1) * 18014398509481984) ⌝ }
 {
-    let end = expand::alternative(t, n2, i, meaning::SeqHop::Fixed(0), work, 0);
+    let end = expand::alternative(t, outline, n2, i, meaning::SeqHop::Fixed(0), work, 0);
     let l = pair::window_len(&work[..end]);
     let own = pair::size_of(&work[..end]);
-    let pairs = pairs_size(t, n1, l, own.text, end, work);
+    let pairs = pairs_size(t, outline, n1, l, own.text, end, work);
     let first = sizes::Size {
         text: 0,
         stores: own.stores,
@@ -365,16 +398,16 @@ fn row_size(t: &[u32], n1: u32, n2: u32, i: u32, work: &mut [u32]) -> sizes::Siz
 }
 
 // Of all alternatives of seq2.
-fn all_size(t: &[u32], n1: u32, n2: u32, work: &mut [u32]) -> sizes::Size
-    requires { ⌜ Paired (now t) n1 n2 (length (now work)) × (all-registers (alternatives-of (now t) n1) (alternatives-of (now t) n2) ≤ 65536) ⌝ }
+fn all_size(t: &[u32], outline: &[u32], n1: u32, n2: u32, work: &mut [u32]) -> sizes::Size
+    requires { ⌜ Paired (now t) (now outline) n1 n2 (length (now work)) × (all-registers (alternatives-of (now t) n1) (alternatives-of (now t) n2) ≤ 65536) ⌝ }
     ensures { λ r. ⌜ r ≡ all-size (alternatives-of (now (t .entry)) n1) (alternatives-of (now (t .entry)) n2) ⌝ }
     ensures small { λ r. ⌜ (r .text ≤ 2147483648) × (r .stores ≤ 9223372036854775808) ⌝ }
 {
-    let count = expand::alternatives(t, n2);
+    let count = expand::count_of(outline, n2);
     let mut total = sizes::Size { text: 0, stores: 0 };
     let mut i = 0;
     while i < count {
-        let s = row_size(t, n1, n2, i, work);
+        let s = row_size(t, outline, n1, n2, i, work);
         total = plus(total, s);
         i += 1;
     }
@@ -394,21 +427,29 @@ fn match_size(texts: u64) -> u64
 }
 
 // All words of a within's listing, the match's own included.
-pub fn word_count(t: &[u32], n1: u32, n2: u32, work: &mut [u32]) -> u64
-    requires { ⌜ Paired (now t) n1 n2 (length (now work)) × (all-registers (alternatives-of (now t) n1) (alternatives-of (now t) n2) ≤ 65536) ⌝ }
+pub fn word_count(t: &[u32], outline: &[u32], n1: u32, n2: u32, work: &mut [u32]) -> u64
+    requires { ⌜ Paired (now t) (now outline) n1 n2 (length (now work)) × (all-registers (alternatives-of (now t) n1) (alternatives-of (now t) n2) ≤ 65536) ⌝ }
     ensures { λ r. ⌜ r ≡ words-in (alternatives-of (now (t .entry)) n1) (alternatives-of (now (t .entry)) n2) ⌝ }
 {
-    let s = all_size(t, n1, n2, work);
+    let s = all_size(t, outline, n1, n2, work);
     let text = match_size(s.text);
     s.stores + (text + 1)
 }
 
 // The whole listing, from the front of the output on; how many words it has.
-pub fn write(t: &[u32], n1: u32, n2: u32, first: u32, work: &mut [u32], out: &mut [u32]) -> usize
-    requires { ⌜ Paired (now t) n1 n2 (length (now work)) × (first + all-registers (alternatives-of (now t) n1) (alternatives-of (now t) n2) ≤ 65536) × (length (within-words (alternatives-of (now t) n1) (alternatives-of (now t) n2) first) ≤ length (now out)) ⌝ }
+pub fn write(
+    t: &[u32],
+    outline: &[u32],
+    n1: u32,
+    n2: u32,
+    first: u32,
+    work: &mut [u32],
+    out: &mut [u32],
+) -> usize
+    requires { ⌜ Paired (now t) (now outline) n1 n2 (length (now work)) × (first + all-registers (alternatives-of (now t) n1) (alternatives-of (now t) n2) ≤ 65536) × (length (within-words (alternatives-of (now t) n1) (alternatives-of (now t) n2) first) ≤ length (now out)) ⌝ }
     ensures { λ end. ⌜ Wrote (now (out .entry)) (now (out .exit)) 0 end (within-words (alternatives-of (now (t .entry)) n1) (alternatives-of (now (t .entry)) n2) first) ⌝ }
 {
-    let a = put_stores(t, n1, n2, first, work, out, 0);
-    let b = put_match(t, n1, n2, first, work, out, a);
+    let a = put_stores(t, outline, n1, n2, first, work, out, 0);
+    let b = put_match(t, outline, n1, n2, first, work, out, a);
     words::put(out, b, MATCH)
 }

@@ -5,10 +5,10 @@ use Rattle.choice.proofs.keep.Statement.{statement}
 use Rattle.choice.proofs.keep.Tie as tie
 
 alternative-requires : tie.Need-alternative-requires
-alternative-requires c κs = (search numbered, search room-for-steps)
+alternative-requires c κs = (search numbered, search needs, search room-for-steps)
 
 guard-words-requires : tie.Need-guard-words-requires
-guard-words-requires c κs = (search numbered, search room-for-guard)
+guard-words-requires c κs = (search numbered, search needs, search room-for-guard)
 
 same-length : tie.Need-same-length
 same-length c = search needs

@@ -6,10 +6,10 @@ use Rattle.choice.proofs.put_match.Statement.{statement}
 use Rattle.choice.proofs.put_match.Tie as tie
 
 abbrev Inv-loop : tie.InvT-loop
-Inv-loop t n count first work₀ out₀ at p₀ x₀ i₀ work out p x i = Joining t n count first work₀ out₀ at work out p x i
+Inv-loop t outline n count first work₀ out₀ at p₀ x₀ i₀ work out p x i = Joining t n count first work₀ out₀ at work out p x i
 
 abbrev μ-loop : tie.MeasureT-loop
-μ-loop t n count first work₀ out₀ at p₀ x₀ i₀ work out p x i = count - i
+μ-loop t outline n count first work₀ out₀ at p₀ x₀ i₀ work out p x i = count - i
 
 loop-holds : tie.Need-loop-holds Inv-loop μ-loop
 loop-holds c = search joining-begins

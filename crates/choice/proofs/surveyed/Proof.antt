@@ -6,10 +6,10 @@ use Rattle.choice.proofs.surveyed.Statement.{statement}
 use Rattle.choice.proofs.surveyed.Tie as tie
 
 abbrev Inv-loop : tie.InvT-loop
-Inv-loop t n count work₀ total₀ i₀ work total i = Surveying t n work₀ work total i
+Inv-loop t outline n count work₀ total₀ i₀ work total i = Surveying t n work₀ work total i
 
 abbrev μ-loop : tie.MeasureT-loop
-μ-loop t n count work₀ total₀ i₀ work total i = count - i
+μ-loop t outline n count work₀ total₀ i₀ work total i = count - i
 
 loop-holds : tie.Need-loop-holds Inv-loop μ-loop
 loop-holds c = search surveying-begins
@@ -23,7 +23,7 @@ same-length c = search needs
 returns : tie.Need-returns Inv-loop μ-loop
 returns c =
     let loop = c .before .before .before .before .before .before .before in
-    (survey-stops (loop .before .before .before .pre) (loop .loop .inv) (c .before .before .before .before .before .before .loop-test .taken) (c .before .before .before .before .look-at .ensures .0) (c .if1 .taken), search survey-stops-with)
+    (survey-stops (loop .before .before .before .before .pre) (loop .loop .inv) (c .before .before .before .before .before .before .loop-test .taken) (c .before .before .before .before .look-at .ensures .0) (c .if1 .taken), search survey-stops-with)
 
 add-total : tie.Need-add-total Inv-loop μ-loop
 add-total c = search needs

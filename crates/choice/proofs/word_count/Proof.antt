@@ -6,10 +6,10 @@ use Rattle.choice.proofs.word_count.Statement.{statement}
 use Rattle.choice.proofs.word_count.Tie as tie
 
 abbrev Inv-loop : tie.InvT-loop
-Inv-loop t n count first work₀ total₀ x₀ i₀ work total x i = Sizing t n count first work₀ work total x i
+Inv-loop t outline n count first work₀ total₀ x₀ i₀ work total x i = Sizing t n count first work₀ work total x i
 
 abbrev μ-loop : tie.MeasureT-loop
-μ-loop t n count first work₀ total₀ x₀ i₀ work total x i = count - i
+μ-loop t outline n count first work₀ total₀ x₀ i₀ work total x i = count - i
 
 loop-holds : tie.Need-loop-holds Inv-loop μ-loop
 loop-holds c = search sizing-begins

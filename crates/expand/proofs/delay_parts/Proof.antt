@@ -1,34 +1,34 @@
--- `delay_parts` takes the number apart by what divides as the operands' counts do.
-use Rattle.expand.proofs.Numbers.{read-kind, delay-numbered, rest-numbered, hop-small, parts-found}
+-- `delay_parts` takes the number apart by the counts in the outline, or knows that there is nothing to take apart.
+use Rattle.expand.proofs.Outlines.{zero-parts, hop-found-small, parts-found}
 use borrow.Author.Needs.{needs}
 use Rattle.expand.proofs.delay_parts.Statement.{statement}
 use Rattle.expand.proofs.delay_parts.Tie as tie
 
-read-requires : tie.Need-read-requires
-read-requires c κs = search needs
-
-right-radix-requires : tie.Need-right-radix-requires
-right-radix-requires c κs = search (delay-numbered, read-kind)
-
-div-left-radix : tie.Need-div-left-radix
-div-left-radix c = search needs
-
-left-radix-requires : tie.Need-left-radix-requires
-left-radix-requires c κs = search (rest-numbered, read-kind)
-
-take-apart-requires : tie.Need-take-apart-requires
-take-apart-requires c κs = (search needs, search needs, search (hop-small, read-kind))
+kth-hop-requires : tie.Need-kth-hop-requires
+kth-hop-requires c κs = search needs
 
 returns : tie.Need-returns
-returns c = search (parts-found, read-kind)
+returns c = search zero-parts
+
+count-of-requires : tie.Need-count-of-requires
+count-of-requires c κs = search needs
+
+count-of-requires-2 : tie.Need-count-of-requires-2
+count-of-requires-2 c κs = search needs
+
+take-apart-requires : tie.Need-take-apart-requires
+take-apart-requires c κs = (search needs, search needs, search hop-found-small)
+
+returns-2 : tie.Need-returns-2
+returns-2 c = search parts-found
 
 pub delay-parts-spec : {M : Type 1} → statement M
 delay-parts-spec =
     tie.close
     (tie.spec
-    read-requires
-    right-radix-requires
-    div-left-radix
-    left-radix-requires
+    kth-hop-requires
+    returns
+    count-of-requires
+    count-of-requires-2
     take-apart-requires
-    returns)
+    returns-2)

@@ -5,7 +5,7 @@ use Rattle.guards.proofs.guard_words.Statement.{statement}
 use Rattle.guards.proofs.guard_words.Tie as tie
 
 guard-text-requires : tie.Need-guard-text-requires
-guard-text-requires c κs = (search needs, search text-room)
+guard-text-requires c κs = (search needs, search needs, search text-room)
 
 same-length : tie.Need-same-length
 same-length c = search needs

@@ -1,11 +1,11 @@
 -- `lower_from` lowers, then clears the work.
-use borrow.Author.Needs.{needs}
 use Rattle.lower.proofs.Laws.{lowers}
+use borrow.Author.Needs.{needs}
 use Rattle.lower.proofs.lower_from.Statement.{statement}
 use Rattle.lower.proofs.lower_from.Tie as tie
 
-lowered-requires : tie.Need-lowered-requires
-lowered-requires c κs = search needs
+answered-requires : tie.Need-answered-requires
+answered-requires c κs = search needs
 
 clear-requires : tie.Need-clear-requires
 clear-requires c κs = search needs
@@ -21,4 +21,4 @@ returns c = search lowers
 
 pub lower-from-spec : {M : Type 1} → statement M
 lower-from-spec =
-    tie.close (tie.spec lowered-requires clear-requires same-length same-length-2 returns)
+    tie.close (tie.spec answered-requires clear-requires same-length same-length-2 returns)

@@ -1,6 +1,6 @@
 -- `lowered` checks the table, walks the tree and hands up what refuses it.
 use Rattle.tree.proofs.Checks.{a-checked-table-is-formed}
-use Rattle.lower.proofs.Laws.{answers-misformed, answers-stopped, table-is-walked, answers-finished}
+use Rattle.lower.proofs.Laws.{answers-misformed, answers-stopped, table-is-walked, outline-is-long, answers-finished}
 use borrow.Author.Needs.{needs}
 use Rattle.lower.proofs.lowered.Statement.{statement}
 use Rattle.lower.proofs.lowered.Tie as tie
@@ -36,13 +36,16 @@ returns-2 : tie.Need-returns-2
 returns-2 c = search answers-stopped
 
 lowered-root-requires : tie.Need-lowered-root-requires
-lowered-root-requires c κs = search table-is-walked
+lowered-root-requires c κs = (search table-is-walked, search outline-is-long)
 
 same-length : tie.Need-same-length
 same-length c = search needs
 
 same-length-2 : tie.Need-same-length-2
 same-length-2 c = search needs
+
+same-length-3 : tie.Need-same-length-3
+same-length-3 c = search needs
 
 returns-3 : tie.Need-returns-3
 returns-3 c = search answers-finished
@@ -64,4 +67,5 @@ lowered-spec =
     lowered-root-requires
     same-length
     same-length-2
+    same-length-3
     returns-3)

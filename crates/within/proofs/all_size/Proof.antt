@@ -1,22 +1,22 @@
 -- `all_size` adds up all alternatives of seq2; what is left is said in `AllSizes`.
 use borrow.Author.Needs.{needs}
 use Prim.Native.Nat.{_-_}
-use Rattle.within.proofs.Rows.{still-paired}
+use Rattle.within.proofs.Rows.{placed-outline, placed-count, seq2-placed, still-paired}
 use Rattle.within.proofs.SizePass.{AllSizes, all-sizes-begin, all-sizes-small, all-sizes-text-fits, all-sizes-stores-fit, all-sizes-on, all-sizes-end, all-sizes-text, all-sizes-stores}
 use Rattle.within.proofs.all_size.Statement.{statement}
 use Rattle.within.proofs.all_size.Tie as tie
 
 abbrev Inv-loop : tie.InvT-loop
-Inv-loop t n1 n2 work₀ count total₀ i₀ work total i = AllSizes t n1 n2 work₀ work total i
+Inv-loop t outline n1 n2 work₀ count total₀ i₀ work total i = AllSizes t n1 n2 count work₀ work total i
 
 abbrev μ-loop : tie.MeasureT-loop
-μ-loop t n1 n2 work₀ count total₀ i₀ work total i = count - i
+μ-loop t outline n1 n2 work₀ count total₀ i₀ work total i = count - i
 
-alternatives-requires : tie.Need-alternatives-requires Inv-loop μ-loop
-alternatives-requires c κs = search needs
+count-of-requires : tie.Need-count-of-requires Inv-loop μ-loop
+count-of-requires c κs = search (placed-outline, seq2-placed)
 
 loop-holds : tie.Need-loop-holds Inv-loop μ-loop
-loop-holds c = search all-sizes-begin
+loop-holds c = search (all-sizes-begin, placed-count, seq2-placed)
 
 row-size-requires : tie.Need-row-size-requires Inv-loop μ-loop
 row-size-requires c κs = (search still-paired, search needs, search all-sizes-small)
@@ -45,7 +45,7 @@ all-size-spec =
     (tie.spec
     Inv-loop
     μ-loop
-    alternatives-requires
+    count-of-requires
     loop-holds
     row-size-requires
     plus-requires

@@ -1,25 +1,26 @@
 -- `all_texts` goes through the alternatives of seq2; what is left is said in `AllTexts`.
 use borrow.Author.Needs.{needs}
 use Prim.Native.Nat.{_-_}
-use Rattle.within.proofs.Rows.{still-paired}
-use Rattle.within.proofs.TextPass.{AllTexts, all-texts-begin, all-texts-small, all-texts-room, all-texts-on, all-texts-end}
+use Rattle.within.proofs.Rows.{placed-outline, placed-count, seq2-placed, still-paired}
+use Rattle.within.proofs.Numbering.{all-numbers-small}
+use Rattle.within.proofs.TextPass.{AllTexts, all-texts-begin, all-texts-room, all-texts-on, all-texts-end}
 use Rattle.within.proofs.all_texts.Statement.{statement}
 use Rattle.within.proofs.all_texts.Tie as tie
 
 abbrev Inv-loop : tie.InvT-loop
-Inv-loop t n1 n2 first work₀ out₀ at count p₀ r₀ i₀ work out p r i = AllTexts t n1 n2 first work₀ work out₀ at out p r i
+Inv-loop t outline n1 n2 first work₀ out₀ at count p₀ r₀ i₀ work out p r i = AllTexts t n1 n2 first count work₀ work out₀ at out p r i
 
 abbrev μ-loop : tie.MeasureT-loop
-μ-loop t n1 n2 first work₀ out₀ at count p₀ r₀ i₀ work out p r i = count - i
+μ-loop t outline n1 n2 first work₀ out₀ at count p₀ r₀ i₀ work out p r i = count - i
 
-alternatives-requires : tie.Need-alternatives-requires Inv-loop μ-loop
-alternatives-requires c κs = search needs
+count-of-requires : tie.Need-count-of-requires Inv-loop μ-loop
+count-of-requires c κs = search (placed-outline, seq2-placed)
 
 loop-holds : tie.Need-loop-holds Inv-loop μ-loop
-loop-holds c = search all-texts-begin
+loop-holds c = search (all-texts-begin, placed-count, seq2-placed)
 
 row-texts-requires : tie.Need-row-texts-requires Inv-loop μ-loop
-row-texts-requires c κs = (search still-paired, search needs, search needs, search all-texts-small, search all-texts-room)
+row-texts-requires c κs = (search still-paired, search needs, search needs, search all-numbers-small, search all-texts-room)
 
 add-i : tie.Need-add-i Inv-loop μ-loop
 add-i c = search needs
@@ -45,7 +46,7 @@ all-texts-spec =
     (tie.spec
     Inv-loop
     μ-loop
-    alternatives-requires
+    count-of-requires
     loop-holds
     row-texts-requires
     add-i

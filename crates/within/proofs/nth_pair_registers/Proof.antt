@@ -6,7 +6,7 @@ use Rattle.within.proofs.nth_pair_registers.Statement.{statement}
 use Rattle.within.proofs.nth_pair_registers.Tie as tie
 
 alternative-requires : tie.Need-alternative-requires
-alternative-requires c κs = (search placed-number, search placed-room)
+alternative-requires c κs = (search placed-number, search needs, search placed-room)
 
 mul-pair-registers : tie.Need-mul-pair-registers
 mul-pair-registers c = search needs

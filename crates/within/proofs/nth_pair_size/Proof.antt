@@ -6,7 +6,7 @@ use Rattle.within.proofs.nth_pair_size.Statement.{statement}
 use Rattle.within.proofs.nth_pair_size.Tie as tie
 
 alternative-requires : tie.Need-alternative-requires
-alternative-requires c κs = (search placed-number, search placed-room)
+alternative-requires c κs = (search placed-number, search needs, search placed-room)
 
 mul-pair-size : tie.Need-mul-pair-size
 mul-pair-size c = search needs

@@ -1,12 +1,13 @@
 -- `nth_pair_stores` writes the assignments of the alternative of seq1 that it wrote into work.
 use borrow.Author.Needs.{needs}
 use Rattle.within.proofs.Rows.{placed-number, placed-room, part-kept, part-ends}
-use Rattle.within.proofs.StorePass.{part-stores-room, part-registers-small, part-registers-fit, part-register-fits, part-stores-done}
+use Rattle.within.proofs.Numbering.{part-registers-small, part-registers-fit, part-register-fits}
+use Rattle.within.proofs.StorePass.{part-stores-room, part-stores-done}
 use Rattle.within.proofs.nth_pair_stores.Statement.{statement}
 use Rattle.within.proofs.nth_pair_stores.Tie as tie
 
 alternative-requires : tie.Need-alternative-requires
-alternative-requires c κs = (search placed-number, search placed-room)
+alternative-requires c κs = (search placed-number, search needs, search placed-room)
 
 mul-pair-registers : tie.Need-mul-pair-registers
 mul-pair-registers c = search needs
@@ -38,11 +39,11 @@ part-pair-stores-end c = search part-ends
 pair-stores-requires : tie.Need-pair-stores-requires
 pair-stores-requires c κs = (search part-kept, search part-registers-small, search part-stores-room)
 
-cast-t26 : tie.Need-cast-t26
-cast-t26 c = search part-registers-fit
+cast-t27 : tie.Need-cast-t27
+cast-t27 c = search part-registers-fit
 
-add-t27 : tie.Need-add-t27
-add-t27 c = search part-register-fits
+add-t28 : tie.Need-add-t28
+add-t28 c = search part-register-fits
 
 same-length : tie.Need-same-length
 same-length c = search needs
@@ -68,8 +69,8 @@ nth-pair-stores-spec =
     part-pair-stores-start
     part-pair-stores-end
     pair-stores-requires
-    cast-t26
-    add-t27
+    cast-t27
+    add-t28
     same-length
     same-length-2
     returns)

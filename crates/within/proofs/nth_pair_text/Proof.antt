@@ -1,13 +1,13 @@
 -- `nth_pair_text` writes the text of the pair whose alternatives stand in work, and leaves seq2's there.
 use borrow.Author.Needs.{needs}
 use Rattle.within.proofs.Rows.{placed-number, placed-room, part-kept, part-ends}
-use Rattle.within.proofs.StorePass.{part-registers-small, part-registers-fit, part-register-fits}
+use Rattle.within.proofs.Numbering.{part-registers-small, part-registers-fit, part-register-fits}
 use Rattle.within.proofs.TextPass.{front-stays, front-stays-kept, front-stays-small, part-text-room, part-text-done}
 use Rattle.within.proofs.nth_pair_text.Statement.{statement}
 use Rattle.within.proofs.nth_pair_text.Tie as tie
 
 alternative-requires : tie.Need-alternative-requires
-alternative-requires c κs = (search placed-number, search placed-room)
+alternative-requires c κs = (search placed-number, search needs, search placed-room)
 
 mul-pair-registers : tie.Need-mul-pair-registers
 mul-pair-registers c = search needs
@@ -30,11 +30,11 @@ sub-pair-text-in c = search needs
 pair-text-in-requires : tie.Need-pair-text-in-requires
 pair-text-in-requires c κs = (search needs, search part-ends, search front-stays-kept, search part-kept, search front-stays-small, search part-registers-small, search part-text-room)
 
-cast-t27 : tie.Need-cast-t27
-cast-t27 c = search part-registers-fit
+cast-t28 : tie.Need-cast-t28
+cast-t28 c = search part-registers-fit
 
-add-t28 : tie.Need-add-t28
-add-t28 c = search part-register-fits
+add-t29 : tie.Need-add-t29
+add-t29 c = search part-register-fits
 
 same-length : tie.Need-same-length
 same-length c = search needs
@@ -57,8 +57,8 @@ nth-pair-text-spec =
     pair-registers-requires
     sub-pair-text-in
     pair-text-in-requires
-    cast-t27
-    add-t28
+    cast-t28
+    add-t29
     same-length
     same-length-2
     returns)

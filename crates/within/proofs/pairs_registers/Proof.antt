@@ -1,24 +1,25 @@
 -- `pairs_registers` adds up the pairs of one alternative of seq2; what is left is said in `PairRegisters`.
 use borrow.Author.Needs.{needs}
 use Prim.Native.Nat.{_-_}
+use Rattle.within.proofs.Rows.{placed-outline, placed-count, still-placed}
 use Rattle.within.proofs.RegisterPass.{PairRegisters, pair-registers-begin, pair-registers-on, pair-registers-fit, pair-registers-end}
 use Rattle.within.proofs.pairs_registers.Statement.{statement}
 use Rattle.within.proofs.pairs_registers.Tie as tie
 
 abbrev Inv-loop : tie.InvT-loop
-Inv-loop t n1 l place work₀ count total₀ j₀ work total j = PairRegisters t n1 l work₀ work total j
+Inv-loop t outline n1 l place work₀ count total₀ j₀ work total j = PairRegisters t n1 l count work₀ work total j
 
 abbrev μ-loop : tie.MeasureT-loop
-μ-loop t n1 l place work₀ count total₀ j₀ work total j = count - j
+μ-loop t outline n1 l place work₀ count total₀ j₀ work total j = count - j
 
-alternatives-requires : tie.Need-alternatives-requires Inv-loop μ-loop
-alternatives-requires c κs = search needs
+count-of-requires : tie.Need-count-of-requires Inv-loop μ-loop
+count-of-requires c κs = search placed-outline
 
 loop-holds : tie.Need-loop-holds Inv-loop μ-loop
-loop-holds c = search pair-registers-begin
+loop-holds c = search (pair-registers-begin, placed-count)
 
 nth-pair-registers-requires : tie.Need-nth-pair-registers-requires Inv-loop μ-loop
-nth-pair-registers-requires c κs = search needs
+nth-pair-registers-requires c κs = (search still-placed, search needs, search needs)
 
 add-total : tie.Need-add-total Inv-loop μ-loop
 add-total c = search pair-registers-fit
@@ -44,7 +45,7 @@ pairs-registers-spec =
     (tie.spec
     Inv-loop
     μ-loop
-    alternatives-requires
+    count-of-requires
     loop-holds
     nth-pair-registers-requires
     add-total

@@ -1,24 +1,26 @@
 -- `pairs_stores` writes one pair after the other; what is left is said in `PairStores`.
 use borrow.Author.Needs.{needs}
 use Prim.Native.Nat.{_-_}
-use Rattle.within.proofs.StorePass.{PairStores, pair-stores-begin, pair-stores-small, pair-stores-room, pair-stores-on, pair-stores-end}
+use Rattle.within.proofs.Rows.{placed-outline, placed-count, still-placed}
+use Rattle.within.proofs.Numbering.{pair-numbers-small}
+use Rattle.within.proofs.StorePass.{PairStores, pair-stores-begin, pair-stores-room, pair-stores-on, pair-stores-end}
 use Rattle.within.proofs.pairs_stores.Statement.{statement}
 use Rattle.within.proofs.pairs_stores.Tie as tie
 
 abbrev Inv-loop : tie.InvT-loop
-Inv-loop t n1 l n place work₀ out₀ at count p₀ r₀ j₀ work out p r j = PairStores t n1 l n work₀ work out₀ at out p r j
+Inv-loop t outline n1 l n place work₀ out₀ at count p₀ r₀ j₀ work out p r j = PairStores t n1 l n count work₀ work out₀ at out p r j
 
 abbrev μ-loop : tie.MeasureT-loop
-μ-loop t n1 l n place work₀ out₀ at count p₀ r₀ j₀ work out p r j = count - j
+μ-loop t outline n1 l n place work₀ out₀ at count p₀ r₀ j₀ work out p r j = count - j
 
-alternatives-requires : tie.Need-alternatives-requires Inv-loop μ-loop
-alternatives-requires c κs = search needs
+count-of-requires : tie.Need-count-of-requires Inv-loop μ-loop
+count-of-requires c κs = search placed-outline
 
 loop-holds : tie.Need-loop-holds Inv-loop μ-loop
-loop-holds c = search pair-stores-begin
+loop-holds c = search (pair-stores-begin, placed-count)
 
 nth-pair-stores-requires : tie.Need-nth-pair-stores-requires Inv-loop μ-loop
-nth-pair-stores-requires c κs = (search needs, search needs, search needs, search pair-stores-small, search pair-stores-room)
+nth-pair-stores-requires c κs = (search still-placed, search needs, search needs, search pair-numbers-small, search pair-stores-room)
 
 add-j : tie.Need-add-j Inv-loop μ-loop
 add-j c = search needs
@@ -44,7 +46,7 @@ pairs-stores-spec =
     (tie.spec
     Inv-loop
     μ-loop
-    alternatives-requires
+    count-of-requires
     loop-holds
     nth-pair-stores-requires
     add-j

@@ -1,24 +1,26 @@
 -- `pairs_texts` writes one pair's text after the other; what is left is said in `PairTexts`.
 use borrow.Author.Needs.{needs}
 use Prim.Native.Nat.{_-_}
-use Rattle.within.proofs.TextPass.{PairTexts, pair-texts-begin, texts-front-kept, texts-front-small, pair-texts-small, pair-texts-room, pair-texts-on, pair-texts-end}
+use Rattle.within.proofs.Rows.{placed-outline, placed-count, still-placed}
+use Rattle.within.proofs.Numbering.{pair-numbers-small}
+use Rattle.within.proofs.TextPass.{PairTexts, pair-texts-begin, texts-front-kept, texts-front-small, pair-texts-room, pair-texts-on, pair-texts-end}
 use Rattle.within.proofs.pairs_texts.Statement.{statement}
 use Rattle.within.proofs.pairs_texts.Tie as tie
 
 abbrev Inv-loop : tie.InvT-loop
-Inv-loop t n1 l m n place start work₀ out₀ at count p₀ r₀ j₀ work out p r j = PairTexts t n1 l m n place start work₀ work out₀ at out p r j
+Inv-loop t outline n1 l m n place start work₀ out₀ at count p₀ r₀ j₀ work out p r j = PairTexts t n1 l m n place start count work₀ work out₀ at out p r j
 
 abbrev μ-loop : tie.MeasureT-loop
-μ-loop t n1 l m n place start work₀ out₀ at count p₀ r₀ j₀ work out p r j = count - j
+μ-loop t outline n1 l m n place start work₀ out₀ at count p₀ r₀ j₀ work out p r j = count - j
 
-alternatives-requires : tie.Need-alternatives-requires Inv-loop μ-loop
-alternatives-requires c κs = search needs
+count-of-requires : tie.Need-count-of-requires Inv-loop μ-loop
+count-of-requires c κs = search placed-outline
 
 loop-holds : tie.Need-loop-holds Inv-loop μ-loop
-loop-holds c = search pair-texts-begin
+loop-holds c = search (pair-texts-begin, placed-count)
 
 nth-pair-text-requires : tie.Need-nth-pair-text-requires Inv-loop μ-loop
-nth-pair-text-requires c κs = (search needs, search needs, search needs, search needs, search texts-front-kept, search texts-front-small, search pair-texts-small, search pair-texts-room)
+nth-pair-text-requires c κs = (search still-placed, search needs, search needs, search needs, search texts-front-kept, search texts-front-small, search pair-numbers-small, search pair-texts-room)
 
 add-j : tie.Need-add-j Inv-loop μ-loop
 add-j c = search needs
@@ -44,7 +46,7 @@ pairs-texts-spec =
     (tie.spec
     Inv-loop
     μ-loop
-    alternatives-requires
+    count-of-requires
     loop-holds
     nth-pair-text-requires
     add-j

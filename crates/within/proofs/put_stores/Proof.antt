@@ -1,25 +1,26 @@
 -- `put_stores` writes one alternative of seq2 after the other; what is left is said in `AllStores`.
 use borrow.Author.Needs.{needs}
 use Prim.Native.Nat.{_-_}
-use Rattle.within.proofs.Rows.{still-paired}
-use Rattle.within.proofs.StorePass.{AllStores, all-stores-begin, all-stores-small, all-stores-room, all-stores-on, all-stores-end}
+use Rattle.within.proofs.Rows.{placed-outline, placed-count, seq2-placed, still-paired}
+use Rattle.within.proofs.Numbering.{all-numbers-small}
+use Rattle.within.proofs.StorePass.{AllStores, all-stores-begin, all-stores-room, all-stores-on, all-stores-end}
 use Rattle.within.proofs.put_stores.Statement.{statement}
 use Rattle.within.proofs.put_stores.Tie as tie
 
 abbrev Inv-loop : tie.InvT-loop
-Inv-loop t n1 n2 first work₀ out₀ at count p₀ r₀ i₀ work out p r i = AllStores t n1 n2 first work₀ work out₀ at out p r i
+Inv-loop t outline n1 n2 first work₀ out₀ at count p₀ r₀ i₀ work out p r i = AllStores t n1 n2 first count work₀ work out₀ at out p r i
 
 abbrev μ-loop : tie.MeasureT-loop
-μ-loop t n1 n2 first work₀ out₀ at count p₀ r₀ i₀ work out p r i = count - i
+μ-loop t outline n1 n2 first work₀ out₀ at count p₀ r₀ i₀ work out p r i = count - i
 
-alternatives-requires : tie.Need-alternatives-requires Inv-loop μ-loop
-alternatives-requires c κs = search needs
+count-of-requires : tie.Need-count-of-requires Inv-loop μ-loop
+count-of-requires c κs = search (placed-outline, seq2-placed)
 
 loop-holds : tie.Need-loop-holds Inv-loop μ-loop
-loop-holds c = search all-stores-begin
+loop-holds c = search (all-stores-begin, placed-count, seq2-placed)
 
 row-stores-requires : tie.Need-row-stores-requires Inv-loop μ-loop
-row-stores-requires c κs = (search still-paired, search needs, search all-stores-small, search all-stores-room)
+row-stores-requires c κs = (search still-paired, search needs, search all-numbers-small, search all-stores-room)
 
 add-i : tie.Need-add-i Inv-loop μ-loop
 add-i c = search needs
@@ -45,7 +46,7 @@ put-stores-spec =
     (tie.spec
     Inv-loop
     μ-loop
-    alternatives-requires
+    count-of-requires
     loop-holds
     row-stores-requires
     add-i

@@ -1,22 +1,22 @@
 -- `registers` adds up all alternatives of seq2; what is left is said in `AllRegisters`.
 use borrow.Author.Needs.{needs}
 use Prim.Native.Nat.{_-_}
-use Rattle.within.proofs.Rows.{still-paired}
+use Rattle.within.proofs.Rows.{placed-outline, placed-count, seq2-placed, still-paired}
 use Rattle.within.proofs.RegisterPass.{AllRegisters, all-registers-begin, all-registers-on, all-registers-fit, all-registers-end}
 use Rattle.within.proofs.registers.Statement.{statement}
 use Rattle.within.proofs.registers.Tie as tie
 
 abbrev Inv-loop : tie.InvT-loop
-Inv-loop t n1 n2 work₀ count total₀ i₀ work total i = AllRegisters t n1 n2 work₀ work total i
+Inv-loop t outline n1 n2 work₀ count total₀ i₀ work total i = AllRegisters t n1 n2 count work₀ work total i
 
 abbrev μ-loop : tie.MeasureT-loop
-μ-loop t n1 n2 work₀ count total₀ i₀ work total i = count - i
+μ-loop t outline n1 n2 work₀ count total₀ i₀ work total i = count - i
 
-alternatives-requires : tie.Need-alternatives-requires Inv-loop μ-loop
-alternatives-requires c κs = search needs
+count-of-requires : tie.Need-count-of-requires Inv-loop μ-loop
+count-of-requires c κs = search (placed-outline, seq2-placed)
 
 loop-holds : tie.Need-loop-holds Inv-loop μ-loop
-loop-holds c = search all-registers-begin
+loop-holds c = search (all-registers-begin, placed-count, seq2-placed)
 
 row-registers-requires : tie.Need-row-registers-requires Inv-loop μ-loop
 row-registers-requires c κs = (search still-paired, search needs)
@@ -45,7 +45,7 @@ registers-spec =
     (tie.spec
     Inv-loop
     μ-loop
-    alternatives-requires
+    count-of-requires
     loop-holds
     row-registers-requires
     add-total

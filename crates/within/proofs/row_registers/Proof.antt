@@ -1,12 +1,12 @@
 -- `row_registers` adds seq2's own registers to those of its pairs.
 use borrow.Author.Needs.{needs}
 use Rattle.within.proofs.Rows.{placed-room, part-ends, front-stands, front-measured, seq2-placed, seq1-placed}
-use Rattle.within.proofs.RegisterPass.{row-registers-are, row-registers-fit}
+use Rattle.within.proofs.RegisterPass.{row-registers-done, row-registers-fit}
 use Rattle.within.proofs.row_registers.Statement.{statement}
 use Rattle.within.proofs.row_registers.Tie as tie
 
 alternative-requires : tie.Need-alternative-requires
-alternative-requires c κs = (search needs, search (placed-room, seq2-placed))
+alternative-requires c κs = (search needs, search needs, search (placed-room, seq2-placed))
 
 slice-reshare-prefix-window-len : tie.Need-slice-reshare-prefix-window-len
 slice-reshare-prefix-window-len c = search (part-ends, seq2-placed)
@@ -36,7 +36,7 @@ same-length : tie.Need-same-length
 same-length c = search needs
 
 returns : tie.Need-returns
-returns c = (search row-registers-are, search needs)
+returns c = (search row-registers-done, search needs)
 
 pub row-registers-spec : {M : Type 1} → statement M
 row-registers-spec =

@@ -6,7 +6,7 @@ use Rattle.within.proofs.row_size.Statement.{statement}
 use Rattle.within.proofs.row_size.Tie as tie
 
 alternative-requires : tie.Need-alternative-requires
-alternative-requires c κs = (search needs, search (placed-room, seq2-placed))
+alternative-requires c κs = (search needs, search needs, search (placed-room, seq2-placed))
 
 slice-reshare-prefix-window-len : tie.Need-slice-reshare-prefix-window-len
 slice-reshare-prefix-window-len c = search (part-ends, seq2-placed)

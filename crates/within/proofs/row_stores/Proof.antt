@@ -1,12 +1,13 @@
 -- `row_stores` writes seq2's own assignments, then those of its pairs.
 use borrow.Author.Needs.{needs}
 use Rattle.within.proofs.Rows.{placed-room, part-ends, front-stands, front-measured, seq2-placed, seq1-placed}
-use Rattle.within.proofs.StorePass.{row-own-fits, row-register-fits, row-own-small, row-own-room, row-pairs-small, row-pairs-room, row-stores-done}
+use Rattle.within.proofs.Numbering.{row-own-fits, row-register-fits, row-own-small, row-pairs-small}
+use Rattle.within.proofs.StorePass.{row-own-room, row-pairs-room, row-stores-done}
 use Rattle.within.proofs.row_stores.Statement.{statement}
 use Rattle.within.proofs.row_stores.Tie as tie
 
 alternative-requires : tie.Need-alternative-requires
-alternative-requires c κs = (search needs, search (placed-room, seq2-placed))
+alternative-requires c κs = (search needs, search needs, search (placed-room, seq2-placed))
 
 slice-reshare-prefix-window-len : tie.Need-slice-reshare-prefix-window-len
 slice-reshare-prefix-window-len c = search (part-ends, seq2-placed)

@@ -1,0 +1,217 @@
+-- `alternative`, `bare_alternative` and `repeated` write the words of the numbered alternative, by the node number and then by
+-- the copies left.
+use borrow.Author.Needs.{needs}
+use Prim.Native.Nat.{_+_, _*_}
+use Rattle.expand.proofs.ByKind.{operand-inside}
+use Rattle.expand.proofs.Numbers.{node-inside, bare-below, bare-numbered, bare-node-known, delay-counts, left-below, right-below, left-numbered, right-numbered, left-operand-known, right-operand-known, guarded-below, guarded-numbered, guarded-operand-known, copied, copies-counts, block-below, block-numbered, base-known, only-below, only-numbered, copy-inside, copy-some, earlier-below, earlier-numbered, last-numbered}
+use Rattle.expand.proofs.Written.{bare-room, bare-written, left-room, right-room, delay-written, guarded-room, throughout-written, block-room, block-written, single-room, single-written, only-room, only-written, earlier-room, last-room, copies-written}
+use Prim.Native.Nat.{ℕ, _<_}
+use borrow.Fn.Kinds.{In}
+use borrow.Fn.PlainCycle.{Measures, is, falls, and}
+use Rattle.expand.proofs.alternative.Reads as alternative
+use Rattle.expand.proofs.alternative.Kinds as alternative-kinds
+use Rattle.expand.proofs.+alternative+bare_alternative+repeated.Lts-alternative as alternative-lts
+use Rattle.expand.proofs.bare_alternative.Reads as bare-alternative
+use Rattle.expand.proofs.bare_alternative.Kinds as bare-alternative-kinds
+use Rattle.expand.proofs.+alternative+bare_alternative+repeated.Lts-bare_alternative as bare-alternative-lts
+use Rattle.expand.proofs.repeated.Reads as repeated
+use Rattle.expand.proofs.repeated.Kinds as repeated-kinds
+use Rattle.expand.proofs.+alternative+bare_alternative+repeated.Lts-repeated as repeated-lts
+use Rattle.expand.proofs.bare_of.Reads as bare-of-reads
+use Rattle.expand.proofs.copies_block.Reads as copies-block-reads
+use Rattle.expand.proofs.copy_digits.Reads as copy-digits-reads
+use Rattle.expand.proofs.delay_parts.Reads as delay-parts-reads
+use Rattle.expand.proofs.made_of_copies.Reads as made-of-copies-reads
+use Rattle.expand.proofs.single_term.Reads as single-term-reads
+use Rattle.term.proofs.store.Reads as store-reads
+use Rattle.tree.proofs.read.Reads as read-reads
+use Rattle.expand.proofs.+alternative+bare_alternative+repeated.{statement}
+use Rattle.expand.proofs.+alternative+bare_alternative+repeated.Tie.{close}
+
+abbrev μ-alternative : Measures 3 alternative-kinds.ps ℕ
+μ-alternative κs a = a .1 .1 .0 * 1024 + 1
+
+abbrev μ-bare-alternative : Measures 3 bare-alternative-kinds.ps ℕ
+μ-bare-alternative κs a = a .1 .1 .0 * 1024
+
+abbrev μ-repeated : Measures 3 repeated-kinds.ps ℕ
+μ-repeated κs a = a .1 .1 .0 * 1024 + (a .1 .1 .1 .0 + 2)
+
+abbrev alternative-at : ℕ → In 3 alternative-kinds.ps
+alternative-at t =
+    and 3 alternative-kinds.ps (is 3 alternative-kinds.ps μ-alternative t) alternative.Pre
+
+abbrev alternative-below : ℕ → In 3 alternative-kinds.ps
+alternative-below t =
+    and 3 alternative-kinds.ps (falls 3 alternative-kinds.ps _<_ μ-alternative t) alternative.Pre
+
+abbrev bare-alternative-at : ℕ → In 3 bare-alternative-kinds.ps
+bare-alternative-at t =
+    and
+    3
+    bare-alternative-kinds.ps
+    (is 3 bare-alternative-kinds.ps μ-bare-alternative t)
+    bare-alternative.Pre
+
+abbrev bare-alternative-below : ℕ → In 3 bare-alternative-kinds.ps
+bare-alternative-below t =
+    and
+    3
+    bare-alternative-kinds.ps
+    (falls 3 bare-alternative-kinds.ps _<_ μ-bare-alternative t)
+    bare-alternative.Pre
+
+abbrev repeated-at : ℕ → In 3 repeated-kinds.ps
+repeated-at t = and 3 repeated-kinds.ps (is 3 repeated-kinds.ps μ-repeated t) repeated.Pre
+
+abbrev repeated-below : ℕ → In 3 repeated-kinds.ps
+repeated-below t =
+    and 3 repeated-kinds.ps (falls 3 repeated-kinds.ps _<_ μ-repeated t) repeated.Pre
+
+abbrev bare-callees : ℕ → bare-alternative-lts.Claims
+bare-callees t = (read-reads.Asked, read-reads.Learnt, delay-parts-reads.Asked, delay-parts-reads.Learnt, alternative-below t, alternative.Post, made-of-copies-reads.Asked, made-of-copies-reads.Learnt, copies-block-reads.Asked, copies-block-reads.Learnt, repeated-below t, repeated.Post, single-term-reads.Asked, single-term-reads.Learnt, store-reads.Asked, store-reads.Learnt)
+
+abbrev copies-callees : ℕ → repeated-lts.Claims
+copies-callees t = (alternative-below t, alternative.Post, copy-digits-reads.Asked, copy-digits-reads.Learnt, repeated-below t, repeated.Post)
+
+abbrev callees : ℕ → alternative-lts.Claims
+callees t = (bare-of-reads.Asked, bare-of-reads.Learnt, bare-alternative-below t, bare-alternative.Post)
+
+alternative-bare-of-requires : (t : ℕ) → alternative-lts.Need-bare-of-requires (callees t) (alternative-at t) alternative.Post
+alternative-bare-of-requires t c κs = search node-inside
+
+alternative-bare-alternative-requires : (t : ℕ) → alternative-lts.Need-bare-alternative-requires (callees t) (alternative-at t) alternative.Post
+alternative-bare-alternative-requires t c κs = (search bare-below, (search bare-numbered, search bare-node-known, search bare-room))
+
+alternative-same-length : (t : ℕ) → alternative-lts.Need-same-length (callees t) (alternative-at t) alternative.Post
+alternative-same-length t c = search needs
+
+alternative-returns : (t : ℕ) → alternative-lts.Need-returns (callees t) (alternative-at t) alternative.Post
+alternative-returns t c = search bare-written
+
+bare-alternative-read-requires : (t : ℕ) → bare-alternative-lts.Need-read-requires (bare-callees t) (bare-alternative-at t) bare-alternative.Post
+bare-alternative-read-requires t c κs = search needs
+
+bare-alternative-delay-parts-requires : (t : ℕ) → bare-alternative-lts.Need-delay-parts-requires (bare-callees t) (bare-alternative-at t) bare-alternative.Post
+bare-alternative-delay-parts-requires t c κs = search delay-counts
+
+bare-alternative-alternative-requires : (t : ℕ) → bare-alternative-lts.Need-alternative-requires (bare-callees t) (bare-alternative-at t) bare-alternative.Post
+bare-alternative-alternative-requires t c κs = (search left-below, (search left-numbered, search left-operand-known, search left-room))
+
+bare-alternative-alternative-requires-2 : (t : ℕ) → bare-alternative-lts.Need-alternative-requires-2 (bare-callees t) (bare-alternative-at t) bare-alternative.Post
+bare-alternative-alternative-requires-2 t c κs = (search right-below, (search right-numbered, search right-operand-known, search right-room))
+
+bare-alternative-same-length : (t : ℕ) → bare-alternative-lts.Need-same-length (bare-callees t) (bare-alternative-at t) bare-alternative.Post
+bare-alternative-same-length t c = search needs
+
+bare-alternative-returns : (t : ℕ) → bare-alternative-lts.Need-returns (bare-callees t) (bare-alternative-at t) bare-alternative.Post
+bare-alternative-returns t c = search delay-written
+
+bare-alternative-alternative-requires-3 : (t : ℕ) → bare-alternative-lts.Need-alternative-requires-3 (bare-callees t) (bare-alternative-at t) bare-alternative.Post
+bare-alternative-alternative-requires-3 t c κs = (search guarded-below, (search guarded-numbered, search guarded-operand-known, search guarded-room))
+
+bare-alternative-same-length-2 : (t : ℕ) → bare-alternative-lts.Need-same-length-2 (bare-callees t) (bare-alternative-at t) bare-alternative.Post
+bare-alternative-same-length-2 t c = search needs
+
+bare-alternative-returns-2 : (t : ℕ) → bare-alternative-lts.Need-returns-2 (bare-callees t) (bare-alternative-at t) bare-alternative.Post
+bare-alternative-returns-2 t c = search throughout-written
+
+bare-alternative-made-of-copies-requires : (t : ℕ) → bare-alternative-lts.Need-made-of-copies-requires (bare-callees t) (bare-alternative-at t) bare-alternative.Post
+bare-alternative-made-of-copies-requires t c κs = search needs
+
+bare-alternative-copies-block-requires : (t : ℕ) → bare-alternative-lts.Need-copies-block-requires (bare-callees t) (bare-alternative-at t) bare-alternative.Post
+bare-alternative-copies-block-requires t c κs =
+    let m = c .before in
+    let r = m .before .before .before .before .before in
+    copies-counts (search needs) (search needs) (r .read .ensures) (copied _ _ (m .made-of-copies .ensures) (c .if3 .taken))
+
+bare-alternative-repeated-requires : (t : ℕ) → bare-alternative-lts.Need-repeated-requires (bare-callees t) (bare-alternative-at t) bare-alternative.Post
+bare-alternative-repeated-requires t c κs = (search (block-below, copied), (search (block-numbered, copied), search (base-known, copied), search (block-room, copied)))
+
+bare-alternative-same-length-3 : (t : ℕ) → bare-alternative-lts.Need-same-length-3 (bare-callees t) (bare-alternative-at t) bare-alternative.Post
+bare-alternative-same-length-3 t c = search needs
+
+bare-alternative-returns-3 : (t : ℕ) → bare-alternative-lts.Need-returns-3 (bare-callees t) (bare-alternative-at t) bare-alternative.Post
+bare-alternative-returns-3 t c = search (block-written, copied)
+
+bare-alternative-single-term-requires : (t : ℕ) → bare-alternative-lts.Need-single-term-requires (bare-callees t) (bare-alternative-at t) bare-alternative.Post
+bare-alternative-single-term-requires t c κs = search operand-inside
+
+bare-alternative-store-requires : (t : ℕ) → bare-alternative-lts.Need-store-requires (bare-callees t) (bare-alternative-at t) bare-alternative.Post
+bare-alternative-store-requires t c κs = search single-room
+
+bare-alternative-same-length-4 : (t : ℕ) → bare-alternative-lts.Need-same-length-4 (bare-callees t) (bare-alternative-at t) bare-alternative.Post
+bare-alternative-same-length-4 t c = search needs
+
+bare-alternative-returns-4 : (t : ℕ) → bare-alternative-lts.Need-returns-4 (bare-callees t) (bare-alternative-at t) bare-alternative.Post
+bare-alternative-returns-4 t c = search single-written
+
+repeated-alternative-requires : (t : ℕ) → repeated-lts.Need-alternative-requires (copies-callees t) (repeated-at t) repeated.Post
+repeated-alternative-requires t c κs = (search only-below, (search only-numbered, search needs, search only-room))
+
+repeated-same-length : (t : ℕ) → repeated-lts.Need-same-length (copies-callees t) (repeated-at t) repeated.Post
+repeated-same-length t c = search needs
+
+repeated-returns : (t : ℕ) → repeated-lts.Need-returns (copies-callees t) (repeated-at t) repeated.Post
+repeated-returns t c = search only-written
+
+repeated-copy-digits-requires : (t : ℕ) → repeated-lts.Need-copy-digits-requires (copies-callees t) (repeated-at t) repeated.Post
+repeated-copy-digits-requires t c κs = (search copy-inside, search copy-some)
+
+repeated-sub-repeated : (t : ℕ) → repeated-lts.Need-sub-repeated (copies-callees t) (repeated-at t) repeated.Post
+repeated-sub-repeated t c = search needs
+
+repeated-repeated-requires : (t : ℕ) → repeated-lts.Need-repeated-requires (copies-callees t) (repeated-at t) repeated.Post
+repeated-repeated-requires t c κs = (search earlier-below, (search earlier-numbered, search needs, search earlier-room))
+
+repeated-alternative-requires-2 : (t : ℕ) → repeated-lts.Need-alternative-requires-2 (copies-callees t) (repeated-at t) repeated.Post
+repeated-alternative-requires-2 t c κs = (search only-below, (search last-numbered, search needs, search last-room))
+
+repeated-same-length-2 : (t : ℕ) → repeated-lts.Need-same-length-2 (copies-callees t) (repeated-at t) repeated.Post
+repeated-same-length-2 t c = search needs
+
+repeated-returns-2 : (t : ℕ) → repeated-lts.Need-returns-2 (copies-callees t) (repeated-at t) repeated.Post
+repeated-returns-2 t c = search copies-written
+
+pub +alternative+bare-alternative+repeated-spec : {M : Type 1} → statement M
++alternative+bare-alternative+repeated-spec =
+    close μ-alternative μ-bare-alternative μ-repeated (λ t. alternative-lts.spec (callees t)
+    (alternative-at t)
+    alternative.Post
+    (alternative-bare-of-requires t)
+    (alternative-bare-alternative-requires t)
+    (alternative-same-length t)
+    (alternative-returns t))
+    (λ t. bare-alternative-lts.spec (bare-callees t)
+    (bare-alternative-at t)
+    bare-alternative.Post
+    (bare-alternative-read-requires t)
+    (bare-alternative-delay-parts-requires t)
+    (bare-alternative-alternative-requires t)
+    (bare-alternative-alternative-requires-2 t)
+    (bare-alternative-same-length t)
+    (bare-alternative-returns t)
+    (bare-alternative-alternative-requires-3 t)
+    (bare-alternative-same-length-2 t)
+    (bare-alternative-returns-2 t)
+    (bare-alternative-made-of-copies-requires t)
+    (bare-alternative-copies-block-requires t)
+    (bare-alternative-repeated-requires t)
+    (bare-alternative-same-length-3 t)
+    (bare-alternative-returns-3 t)
+    (bare-alternative-single-term-requires t)
+    (bare-alternative-store-requires t)
+    (bare-alternative-same-length-4 t)
+    (bare-alternative-returns-4 t))
+    λ t. repeated-lts.spec (copies-callees t)
+    (repeated-at t)
+    repeated.Post
+    (repeated-alternative-requires t)
+    (repeated-same-length t)
+    (repeated-returns t)
+    (repeated-copy-digits-requires t)
+    (repeated-sub-repeated t)
+    (repeated-repeated-requires t)
+    (repeated-alternative-requires-2 t)
+    (repeated-same-length-2 t)
+    (repeated-returns-2 t)

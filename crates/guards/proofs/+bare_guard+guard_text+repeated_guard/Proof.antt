@@ -1,0 +1,242 @@
+-- `guard_text`, `bare_guard` and `repeated_guard` write the words of the numbered alternative's guard, by the node number and then
+-- by the copies left.
+use borrow.Author.Needs.{needs}
+use Prim.Native.Nat.{_+_, _*_}
+use Rattle.expand.proofs.Numbers.{node-inside, bare-below, bare-numbered, bare-node-known, delay-counts, left-below, right-below, left-numbered, right-numbered, left-operand-known, right-operand-known, guarded-below, guarded-numbered, guarded-operand-known, copied, copies-counts, block-below, block-numbered, base-known, only-below, only-numbered, copy-inside, copy-some, earlier-below, earlier-numbered, last-numbered}
+use Rattle.guards.proofs.Laws.{unguarded-text, bare-guard-room, bare-guarded, left-room, right-room, delay-join-room, delay-guarded, condition-small, under-room, condition-room, throughout-join-room, throughout-guarded, block-room, block-guarded, single-unguarded, only-room, only-guarded, earlier-room, last-room, copies-join-room, copies-guarded}
+use Prim.Native.Nat.{ℕ, _<_}
+use borrow.Fn.Kinds.{In}
+use borrow.Fn.PlainCycle.{Measures, is, falls, and}
+use Rattle.guards.proofs.bare_guard.Reads as bare-guard
+use Rattle.guards.proofs.bare_guard.Kinds as bare-guard-kinds
+use Rattle.guards.proofs.+bare_guard+guard_text+repeated_guard.Lts-bare_guard as bare-guard-lts
+use Rattle.guards.proofs.guard_text.Reads as guard-text
+use Rattle.guards.proofs.guard_text.Kinds as guard-text-kinds
+use Rattle.guards.proofs.+bare_guard+guard_text+repeated_guard.Lts-guard_text as guard-text-lts
+use Rattle.guards.proofs.repeated_guard.Reads as repeated-guard
+use Rattle.guards.proofs.repeated_guard.Kinds as repeated-guard-kinds
+use Rattle.guards.proofs.+bare_guard+guard_text+repeated_guard.Lts-repeated_guard as repeated-guard-lts
+use Rattle.expand.proofs.bare_of.Reads as bare-of-reads
+use Rattle.expand.proofs.copies_block.Reads as copies-block-reads
+use Rattle.expand.proofs.copy_digits.Reads as copy-digits-reads
+use Rattle.expand.proofs.delay_parts.Reads as delay-parts-reads
+use Rattle.expand.proofs.flag_of.Reads as flag-of-reads
+use Rattle.expand.proofs.made_of_copies.Reads as made-of-copies-reads
+use Rattle.guards.proofs.join_guards.Reads as join-guards-reads
+use Rattle.guards.proofs.put_condition.Reads as put-condition-reads
+use Rattle.tree.proofs.read.Reads as read-reads
+use Rattle.guards.proofs.+bare_guard+guard_text+repeated_guard.{statement}
+use Rattle.guards.proofs.+bare_guard+guard_text+repeated_guard.Tie.{close}
+
+abbrev μ-bare-guard : Measures 3 bare-guard-kinds.ps ℕ
+μ-bare-guard κs a = a .1 .1 .0 * 1024
+
+abbrev μ-guard-text : Measures 3 guard-text-kinds.ps ℕ
+μ-guard-text κs a = a .1 .1 .0 * 1024 + 1
+
+abbrev μ-repeated-guard : Measures 3 repeated-guard-kinds.ps ℕ
+μ-repeated-guard κs a = a .1 .1 .0 * 1024 + (a .1 .1 .1 .0 + 2)
+
+abbrev bare-guard-at : ℕ → In 3 bare-guard-kinds.ps
+bare-guard-at t =
+    and 3 bare-guard-kinds.ps (is 3 bare-guard-kinds.ps μ-bare-guard t) bare-guard.Pre
+
+abbrev bare-guard-below : ℕ → In 3 bare-guard-kinds.ps
+bare-guard-below t =
+    and 3 bare-guard-kinds.ps (falls 3 bare-guard-kinds.ps _<_ μ-bare-guard t) bare-guard.Pre
+
+abbrev guard-text-at : ℕ → In 3 guard-text-kinds.ps
+guard-text-at t =
+    and 3 guard-text-kinds.ps (is 3 guard-text-kinds.ps μ-guard-text t) guard-text.Pre
+
+abbrev guard-text-below : ℕ → In 3 guard-text-kinds.ps
+guard-text-below t =
+    and 3 guard-text-kinds.ps (falls 3 guard-text-kinds.ps _<_ μ-guard-text t) guard-text.Pre
+
+abbrev repeated-guard-at : ℕ → In 3 repeated-guard-kinds.ps
+repeated-guard-at t =
+    and
+    3
+    repeated-guard-kinds.ps
+    (is 3 repeated-guard-kinds.ps μ-repeated-guard t)
+    repeated-guard.Pre
+
+abbrev repeated-guard-below : ℕ → In 3 repeated-guard-kinds.ps
+repeated-guard-below t =
+    and
+    3
+    repeated-guard-kinds.ps
+    (falls 3 repeated-guard-kinds.ps _<_ μ-repeated-guard t)
+    repeated-guard.Pre
+
+abbrev text-callees : ℕ → guard-text-lts.Claims
+text-callees t = (flag-of-reads.Asked, flag-of-reads.Learnt, bare-of-reads.Asked, bare-of-reads.Learnt, bare-guard-below t, bare-guard.Post)
+
+abbrev copies-callees : ℕ → repeated-guard-lts.Claims
+copies-callees t = (guard-text-below t, guard-text.Post, copy-digits-reads.Asked, copy-digits-reads.Learnt, repeated-guard-below t, repeated-guard.Post, join-guards-reads.Asked, join-guards-reads.Learnt)
+
+abbrev callees : ℕ → bare-guard-lts.Claims
+callees t = (read-reads.Asked, read-reads.Learnt, delay-parts-reads.Asked, delay-parts-reads.Learnt, guard-text-below t, guard-text.Post, join-guards-reads.Asked, join-guards-reads.Learnt, put-condition-reads.Asked, put-condition-reads.Learnt, made-of-copies-reads.Asked, made-of-copies-reads.Learnt, copies-block-reads.Asked, copies-block-reads.Learnt, repeated-guard-below t, repeated-guard.Post)
+
+bare-guard-read-requires : (t : ℕ) → bare-guard-lts.Need-read-requires (callees t) (bare-guard-at t) bare-guard.Post
+bare-guard-read-requires t c κs = search needs
+
+bare-guard-delay-parts-requires : (t : ℕ) → bare-guard-lts.Need-delay-parts-requires (callees t) (bare-guard-at t) bare-guard.Post
+bare-guard-delay-parts-requires t c κs = search delay-counts
+
+bare-guard-guard-text-requires : (t : ℕ) → bare-guard-lts.Need-guard-text-requires (callees t) (bare-guard-at t) bare-guard.Post
+bare-guard-guard-text-requires t c κs = (search left-below, (search left-numbered, search left-operand-known, search left-room))
+
+bare-guard-guard-text-requires-2 : (t : ℕ) → bare-guard-lts.Need-guard-text-requires-2 (callees t) (bare-guard-at t) bare-guard.Post
+bare-guard-guard-text-requires-2 t c κs = (search right-below, (search right-numbered, search right-operand-known, search right-room))
+
+bare-guard-join-guards-requires : (t : ℕ) → bare-guard-lts.Need-join-guards-requires (callees t) (bare-guard-at t) bare-guard.Post
+bare-guard-join-guards-requires t c κs = search delay-join-room
+
+bare-guard-same-length : (t : ℕ) → bare-guard-lts.Need-same-length (callees t) (bare-guard-at t) bare-guard.Post
+bare-guard-same-length t c = search needs
+
+bare-guard-returns : (t : ℕ) → bare-guard-lts.Need-returns (callees t) (bare-guard-at t) bare-guard.Post
+bare-guard-returns t c =
+    let j = c .before .before in
+    let g = j .before .before .before .before in
+    let f = g .before .before .before .before in
+    let d = f .before .before in
+    let r = d .before .before .before in
+    let p = r .before .before .before .before .pre .1 in
+    delay-guarded _ _ (p .0) (p .1) (p .2) (r .read .ensures) (d .before .if1 .taken) (d .delay-parts .ensures) (f .guard-text .ensures) (g .guard-text2 .ensures) (j .join-guards .ensures)
+
+bare-guard-guard-text-requires-3 : (t : ℕ) → bare-guard-lts.Need-guard-text-requires-3 (callees t) (bare-guard-at t) bare-guard.Post
+bare-guard-guard-text-requires-3 t c κs = (search guarded-below, (search guarded-numbered, search guarded-operand-known, search under-room))
+
+bare-guard-put-condition-requires : (t : ℕ) → bare-guard-lts.Need-put-condition-requires (callees t) (bare-guard-at t) bare-guard.Post
+bare-guard-put-condition-requires t c κs = (search condition-room, search condition-small)
+
+bare-guard-join-guards-requires-2 : (t : ℕ) → bare-guard-lts.Need-join-guards-requires-2 (callees t) (bare-guard-at t) bare-guard.Post
+bare-guard-join-guards-requires-2 t c κs = search throughout-join-room
+
+bare-guard-same-length-2 : (t : ℕ) → bare-guard-lts.Need-same-length-2 (callees t) (bare-guard-at t) bare-guard.Post
+bare-guard-same-length-2 t c = search needs
+
+bare-guard-returns-2 : (t : ℕ) → bare-guard-lts.Need-returns-2 (callees t) (bare-guard-at t) bare-guard.Post
+bare-guard-returns-2 t c = search throughout-guarded
+
+bare-guard-made-of-copies-requires : (t : ℕ) → bare-guard-lts.Need-made-of-copies-requires (callees t) (bare-guard-at t) bare-guard.Post
+bare-guard-made-of-copies-requires t c κs = search needs
+
+bare-guard-copies-block-requires : (t : ℕ) → bare-guard-lts.Need-copies-block-requires (callees t) (bare-guard-at t) bare-guard.Post
+bare-guard-copies-block-requires t c κs =
+    let m = c .before in
+    let r = m .before .before .before .before .before in
+    copies-counts (search needs) (search needs) (r .read .ensures) (copied _ _ (m .made-of-copies .ensures) (c .if3 .taken))
+
+bare-guard-repeated-guard-requires : (t : ℕ) → bare-guard-lts.Need-repeated-guard-requires (callees t) (bare-guard-at t) bare-guard.Post
+bare-guard-repeated-guard-requires t c κs = (search (block-below, copied), (search (block-numbered, copied), search (base-known, copied), search (block-room, copied)))
+
+bare-guard-same-length-3 : (t : ℕ) → bare-guard-lts.Need-same-length-3 (callees t) (bare-guard-at t) bare-guard.Post
+bare-guard-same-length-3 t c = search needs
+
+bare-guard-returns-3 : (t : ℕ) → bare-guard-lts.Need-returns-3 (callees t) (bare-guard-at t) bare-guard.Post
+bare-guard-returns-3 t c = search (block-guarded, copied)
+
+bare-guard-returns-4 : (t : ℕ) → bare-guard-lts.Need-returns-4 (callees t) (bare-guard-at t) bare-guard.Post
+bare-guard-returns-4 t c = search single-unguarded
+
+guard-text-flag-of-requires : (t : ℕ) → guard-text-lts.Need-flag-of-requires (text-callees t) (guard-text-at t) guard-text.Post
+guard-text-flag-of-requires t c κs = search node-inside
+
+guard-text-returns : (t : ℕ) → guard-text-lts.Need-returns (text-callees t) (guard-text-at t) guard-text.Post
+guard-text-returns t c = search unguarded-text
+
+guard-text-bare-of-requires : (t : ℕ) → guard-text-lts.Need-bare-of-requires (text-callees t) (guard-text-at t) guard-text.Post
+guard-text-bare-of-requires t c κs = search node-inside
+
+guard-text-bare-guard-requires : (t : ℕ) → guard-text-lts.Need-bare-guard-requires (text-callees t) (guard-text-at t) guard-text.Post
+guard-text-bare-guard-requires t c κs = (search bare-below, (search bare-numbered, search bare-node-known, search bare-guard-room))
+
+guard-text-same-length : (t : ℕ) → guard-text-lts.Need-same-length (text-callees t) (guard-text-at t) guard-text.Post
+guard-text-same-length t c = search needs
+
+guard-text-returns-2 : (t : ℕ) → guard-text-lts.Need-returns-2 (text-callees t) (guard-text-at t) guard-text.Post
+guard-text-returns-2 t c = search bare-guarded
+
+repeated-guard-guard-text-requires : (t : ℕ) → repeated-guard-lts.Need-guard-text-requires (copies-callees t) (repeated-guard-at t) repeated-guard.Post
+repeated-guard-guard-text-requires t c κs = (search only-below, (search only-numbered, search needs, search only-room))
+
+repeated-guard-same-length : (t : ℕ) → repeated-guard-lts.Need-same-length (copies-callees t) (repeated-guard-at t) repeated-guard.Post
+repeated-guard-same-length t c = search needs
+
+repeated-guard-returns : (t : ℕ) → repeated-guard-lts.Need-returns (copies-callees t) (repeated-guard-at t) repeated-guard.Post
+repeated-guard-returns t c = search only-guarded
+
+repeated-guard-copy-digits-requires : (t : ℕ) → repeated-guard-lts.Need-copy-digits-requires (copies-callees t) (repeated-guard-at t) repeated-guard.Post
+repeated-guard-copy-digits-requires t c κs = (search copy-inside, search copy-some)
+
+repeated-guard-sub-repeated-guard : (t : ℕ) → repeated-guard-lts.Need-sub-repeated-guard (copies-callees t) (repeated-guard-at t) repeated-guard.Post
+repeated-guard-sub-repeated-guard t c = search needs
+
+repeated-guard-repeated-guard-requires : (t : ℕ) → repeated-guard-lts.Need-repeated-guard-requires (copies-callees t) (repeated-guard-at t) repeated-guard.Post
+repeated-guard-repeated-guard-requires t c κs = (search earlier-below, (search earlier-numbered, search needs, search earlier-room))
+
+repeated-guard-guard-text-requires-2 : (t : ℕ) → repeated-guard-lts.Need-guard-text-requires-2 (copies-callees t) (repeated-guard-at t) repeated-guard.Post
+repeated-guard-guard-text-requires-2 t c κs = (search only-below, (search last-numbered, search needs, search last-room))
+
+repeated-guard-join-guards-requires : (t : ℕ) → repeated-guard-lts.Need-join-guards-requires (copies-callees t) (repeated-guard-at t) repeated-guard.Post
+repeated-guard-join-guards-requires t c κs =
+    let g = c .before .before .before in
+    let r = g .before .before .before .before in
+    let a = r .before .before in
+    let p = a .before .before .before .before .before .pre .1 in
+    copies-join-room _ _ (p .0) (p .1) (p .2) (a .before .if1 .left) (a .copy-digits .ensures) (r .repeated-guard .ensures) (g .guard-text2 .ensures)
+
+repeated-guard-same-length-2 : (t : ℕ) → repeated-guard-lts.Need-same-length-2 (copies-callees t) (repeated-guard-at t) repeated-guard.Post
+repeated-guard-same-length-2 t c = search needs
+
+repeated-guard-returns-2 : (t : ℕ) → repeated-guard-lts.Need-returns-2 (copies-callees t) (repeated-guard-at t) repeated-guard.Post
+repeated-guard-returns-2 t c = search copies-guarded
+
+pub +bare-guard+guard-text+repeated-guard-spec : {M : Type 1} → statement M
++bare-guard+guard-text+repeated-guard-spec =
+    close μ-bare-guard μ-guard-text μ-repeated-guard (λ t. bare-guard-lts.spec (callees t)
+    (bare-guard-at t)
+    bare-guard.Post
+    (bare-guard-read-requires t)
+    (bare-guard-delay-parts-requires t)
+    (bare-guard-guard-text-requires t)
+    (bare-guard-guard-text-requires-2 t)
+    (bare-guard-join-guards-requires t)
+    (bare-guard-same-length t)
+    (bare-guard-returns t)
+    (bare-guard-guard-text-requires-3 t)
+    (bare-guard-put-condition-requires t)
+    (bare-guard-join-guards-requires-2 t)
+    (bare-guard-same-length-2 t)
+    (bare-guard-returns-2 t)
+    (bare-guard-made-of-copies-requires t)
+    (bare-guard-copies-block-requires t)
+    (bare-guard-repeated-guard-requires t)
+    (bare-guard-same-length-3 t)
+    (bare-guard-returns-3 t)
+    (bare-guard-returns-4 t))
+    (λ t. guard-text-lts.spec (text-callees t)
+    (guard-text-at t)
+    guard-text.Post
+    (guard-text-flag-of-requires t)
+    (guard-text-returns t)
+    (guard-text-bare-of-requires t)
+    (guard-text-bare-guard-requires t)
+    (guard-text-same-length t)
+    (guard-text-returns-2 t))
+    λ t. repeated-guard-lts.spec (copies-callees t)
+    (repeated-guard-at t)
+    repeated-guard.Post
+    (repeated-guard-guard-text-requires t)
+    (repeated-guard-same-length t)
+    (repeated-guard-returns t)
+    (repeated-guard-copy-digits-requires t)
+    (repeated-guard-sub-repeated-guard t)
+    (repeated-guard-repeated-guard-requires t)
+    (repeated-guard-guard-text-requires-2 t)
+    (repeated-guard-join-guards-requires t)
+    (repeated-guard-same-length-2 t)
+    (repeated-guard-returns-2 t)

@@ -5,7 +5,7 @@
 //! not. Here work is lent as long as the tree needs it and output as long as the listing is; the tree is read from its words.
 use compare::listing::{self, Counts};
 use compare::original::{self, UNLIMITED};
-use compare::trees::{atom, balanced, consecutive, delay, nonconsecutive, Random};
+use compare::trees::{atom, balanced, consecutive, delay, nonconsecutive, tower, within, Random};
 use compare::{interpreter, rules, sva};
 use std::hint::black_box;
 use std::time::{Duration, Instant};
@@ -129,6 +129,13 @@ fn rows() {
     lowering("254 `##0 b` in a row", &row(&|_| 0));
     lowering("the same, the first eight `##[0:1]`", &row(&|level| u32::from(level < 8)));
     lowering("the same, the last eight `##[0:1]`", &row(&|level| u32::from(level > 245)));
+    let eight = |tree: &[u32]| tower(tree.to_vec(), 8, |left| delay(left, &b, 0, 1));
+    let once = |tree: &[u32], floors| tower(tree.to_vec(), floors, |operand| consecutive(operand, 1, 1));
+    let long = tower(a.clone(), 200, |left| delay(left, &c, 0, 0));
+    lowering("200 `##0 c` in a row, on the left of eight `##[0:1] b`", &delay(&long, &eight(&a), 0, 0));
+    lowering("`a` under 246 `[*1]`, then eight `##[0:1] b`", &eight(&once(&a, 246)));
+    lowering("16 of `a` under 230 `[*1]`, then eight `##[0:1] b`", &eight(&balanced(&vec![once(&a, 230); 16], 0, 0)));
+    lowering("eight `##[0:1]` within 200 `##0 c`", &within(&eight(&a), &long));
     println!("\n| tick | registers | words | here, ns | C checked once, ns | C checked at every tick, ns | here / once | here / every |");
     println!("|---|---|---|---|---|---|---|---|");
     ticking("`a ##1 b`", &delay(&a, &b, 1, 1));

@@ -3,6 +3,7 @@ pub mod PairByPair
 pub mod Lengths
 pub mod Rows
 pub mod RegisterPass
+pub mod Windows
 pub mod Numbering
 pub mod SizePass
 pub mod StorePass

@@ -33,7 +33,7 @@ unfolding registers-in
 registers-rehop h [] = refl
 registers-rehop h (s ∷ ss) = refl
 
-window-rehop : (h : SeqHop) (ss : List SeqStep) → window-len (rehop h ss) ≡ window-len ss
+pub window-rehop : (h : SeqHop) (ss : List SeqStep) → window-len (rehop h ss) ≡ window-len ss
 window-rehop h [] = refl
 window-rehop h (s ∷ ss) = refl
 

@@ -128,6 +128,9 @@ module _ {t outline : List ℕ} {n₁ n₂ work : ℕ} (P : Paired t outline n�
   both-few : entries (alternatives-of t n₁) + entries (alternatives-of t n₂) ≤ 65536
   both-few = omega (arith, P .pairs .fits, room-is-small work)
 
+  pub seq1-alone : Placed t outline n₁ 0 work
+  seq1-alone = record { node = seq1-node; known = P .one-known; room = omega (arith, both-fit); few = omega (arith, both-few) }
+
   pub seq2-placed : Placed t outline n₂ 0 work
   seq2-placed = record { node = seq2-node; known = P .two-known; room = omega (arith, both-fit); few = omega (arith, both-few) }
 
@@ -146,3 +149,6 @@ still-placed P e = rw e P
 
 pub still-paired : {t outline : List ℕ} {n₁ n₂ work work′ : ℕ} → Paired t outline n₁ n₂ work → work′ ≡ work → Paired t outline n₁ n₂ work′
 still-paired P e = rw e P
+
+pub still-paired-later : {t outline : List ℕ} {n₁ n₂ work work₁ work₂ : ℕ} → Paired t outline n₁ n₂ work → work₁ ≡ work → work₂ ≡ work₁ → Paired t outline n₁ n₂ work₂
+still-paired-later P e f = still-paired (still-paired P e) f

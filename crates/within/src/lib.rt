@@ -1,6 +1,8 @@
 // A root within (`synth_within` of the source): every alternative of seq2, and beside it every alternative of seq1 that fits.
 // Alternatives are numbered and never stored together: each pass writes one of seq2 into the front of work and, behind it, one
 // of seq1 after the other. So no expression is kept, and nothing is written into the output before its size is known.
+// Only the windows of seq1's alternatives are kept, measured once in each call: where few of up to 256 pairs fit, the others are
+// skipped before their steps are written.
 //
 // Example: `a within (b ##1 c)` has one pair. The passes count 2 registers and 16 words, write `a1 any seq0`, then
 // `a0 any seq1`, then `r0 a2 any and a0 any r1 or and`, and end the match.
@@ -15,25 +17,43 @@ ghost use Rattle.pair.specs.Pairs.{registers-in, text-in, taken-registers, take
 ghost use Rattle.pair.specs.Sizes.{taken-size};
 ghost use Rattle.within.specs.AllPairs.{pairs-registers, pairs-stores, pairs-texts, row-registers, row-stores, row-texts, all-registers, all-stores, all-texts, or-zero, within-words};
 ghost use Rattle.within.specs.AllSizes.{«plus», pairs-size, row-size, all-size, match-size, words-in};
-ghost use Rattle.within.specs.Rows.{Placed, Paired};
+ghost use Rattle.within.specs.Rows.{Placed, Paired, Windows};
 
 // 01's operation that ends the match.
 const MATCH: u32 = 14 * step_text::ATOM;
+
+// Puts the window of each alternative of seq1, by its number.
+fn put_windows(t: &[u32], outline: &[u32], n1: u32, work: &mut [u32], windows: &mut [u64])
+    requires { ⌜ Placed (now t) (now outline) n1 0 (length (now work)) × (256 ≤ length (now windows)) ⌝ }
+    ensures { λ _. ⌜ Windows (now (t .entry)) (now (windows .exit)) n1 ⌝ }
+{
+    let count = expand::count_of(outline, n1);
+    let mut j = 0;
+    while j < count {
+        let end = expand::alternative(t, outline, n1, j, meaning::SeqHop::Fixed(0), work, 0);
+        windows[j as usize] = pair::window_len(&work[..end]);
+        j += 1;
+    }
+}
 
 // The registers of the j-th alternative of seq1 beside one of seq2, whose window is l and whose steps end at the place.
 fn nth_pair_registers(
     t: &[u32],
     outline: &[u32],
+    windows: &[u64],
     n1: u32,
     j: u32,
     l: u64,
     place: usize,
     work: &mut [u32],
 ) -> u64
-    requires { ⌜ Placed (now t) (now outline) n1 place (length (now work)) × (j < length (alternatives-of (now t) n1)) × (l ≤ 281474976710656) ⌝ }
+    requires { ⌜ Placed (now t) (now outline) n1 place (length (now work)) × Windows (now t) (now windows) n1 × (j < length (alternatives-of (now t) n1)) × (l ≤ 281474976710656) ⌝ }
     ensures { λ r. ⌜ r ≡ taken-registers l (nth (alternatives-of (now (t .entry)) n1) j .steps) ⌝ }
     ensures small { λ r. ⌜ r ≤ 844424930131968 ⌝ }
 {
+    if l < windows[j as usize] {
+        return 0;
+    }
     let end = expand::alternative(t, outline, n1, j, meaning::SeqHop::Fixed(0), work, place);
     pair::pair_registers(&work[place..end], l)
 }
@@ -42,12 +62,13 @@ fn nth_pair_registers(
 fn pairs_registers(
     t: &[u32],
     outline: &[u32],
+    windows: &[u64],
     n1: u32,
     l: u64,
     place: usize,
     work: &mut [u32],
 ) -> u64
-    requires { ⌜ Placed (now t) (now outline) n1 place (length (now work)) × (l ≤ 281474976710656) ⌝ }
+    requires { ⌜ Placed (now t) (now outline) n1 place (length (now work)) × Windows (now t) (now windows) n1 × (l ≤ 281474976710656) ⌝ }
     ensures { λ r. ⌜ r ≡ pairs-registers l (alternatives-of (now (t .entry)) n1) ⌝ }
     ensures small { λ r. ⌜ r ≤ length (alternatives-of (now (t .entry)) n1) * 844424930131968 ⌝ }
 {
@@ -55,22 +76,53 @@ fn pairs_registers(
     let mut total: u64 = 0;
     let mut j = 0;
     while j < count {
-        total += nth_pair_registers(t, outline, n1, j, l, place, work);
+        total += nth_pair_registers(t, outline, windows, n1, j, l, place, work);
         j += 1;
     }
     total
 }
 
 // The registers of the i-th alternative of seq2 and of its pairs.
-fn row_registers(t: &[u32], outline: &[u32], n1: u32, n2: u32, i: u32, work: &mut [u32]) -> u64
-    requires { ⌜ Paired (now t) (now outline) n1 n2 (length (now work)) × (i < length (alternatives-of (now t) n2)) ⌝ }
+fn row_registers(
+    t: &[u32],
+    outline: &[u32],
+    windows: &[u64],
+    n1: u32,
+    n2: u32,
+    i: u32,
+    work: &mut [u32],
+) -> u64
+    requires { ⌜ Paired (now t) (now outline) n1 n2 (length (now work)) × Windows (now t) (now windows) n1 × (i < length (alternatives-of (now t) n2)) ⌝ }
     ensures { λ r. ⌜ r ≡ row-registers (alternatives-of (now (t .entry)) n1) (nth (alternatives-of (now (t .entry)) n2) i .steps) ⌝ }
     ensures small { λ r. ⌜ r ≤ (length (alternatives-of (now (t .entry)) n1) + 1) * 844424930131968 ⌝ }
 {
     let end = expand::alternative(t, outline, n2, i, meaning::SeqHop::Fixed(0), work, 0);
-    let l = pair::window_len(&work[..end]);
-    let own = pair::registers_of(&work[..end]);
-    own + pairs_registers(t, outline, n1, l, end, work)
+    let two = &work[..end];
+    let l = pair::window_len(two);
+    let own = pair::registers_of(two);
+    own + pairs_registers(t, outline, windows, n1, l, end, work)
+}
+
+// The registers of all alternatives of seq2 and of their pairs.
+fn all_registers(
+    t: &[u32],
+    outline: &[u32],
+    windows: &[u64],
+    n1: u32,
+    n2: u32,
+    work: &mut [u32],
+) -> u64
+    requires { ⌜ Paired (now t) (now outline) n1 n2 (length (now work)) × Windows (now t) (now windows) n1 ⌝ }
+    ensures { λ r. ⌜ r ≡ all-registers (alternatives-of (now (t .entry)) n1) (alternatives-of (now (t .entry)) n2) ⌝ }
+{
+    let count = expand::count_of(outline, n2);
+    let mut total: u64 = 0;
+    let mut i = 0;
+    while i < count {
+        total += row_registers(t, outline, windows, n1, n2, i, work);
+        i += 1;
+    }
+    total
 }
 
 // All registers of a within: those of seq2's alternatives, of seq1's in every pair that fits, and of the delays.
@@ -78,20 +130,16 @@ pub fn registers(t: &[u32], outline: &[u32], n1: u32, n2: u32, work: &mut [u32])
     requires { ⌜ Paired (now t) (now outline) n1 n2 (length (now work)) ⌝ }
     ensures { λ r. ⌜ r ≡ all-registers (alternatives-of (now (t .entry)) n1) (alternatives-of (now (t .entry)) n2) ⌝ }
 {
-    let count = expand::count_of(outline, n2);
-    let mut total: u64 = 0;
-    let mut i = 0;
-    while i < count {
-        total += row_registers(t, outline, n1, n2, i, work);
-        i += 1;
-    }
-    total
+    let mut windows = [0u64; 256];
+    put_windows(t, outline, n1, work, &mut windows);
+    all_registers(t, outline, &windows, n1, n2, work)
 }
 
 // The assignments of the j-th alternative of seq1 beside one of seq2 whose window is l.
 fn nth_pair_stores(
     t: &[u32],
     outline: &[u32],
+    windows: &[u64],
     n1: u32,
     j: u32,
     l: u64,
@@ -101,12 +149,19 @@ fn nth_pair_stores(
     out: &mut [u32],
     at: usize,
 ) -> choice::Mark
-    requires { ⌜ Placed (now t) (now outline) n1 place (length (now work)) × (j < length (alternatives-of (now t) n1)) × (l ≤ 281474976710656) × (n + taken-registers l (nth (alternatives-of (now t) n1) j .steps) ≤ 65536) × (at + length (taken-stores l (nth (alternatives-of (now t) n1) j .steps) n) ≤ length (now out)) ⌝ }
+    requires { ⌜ Placed (now t) (now outline) n1 place (length (now work)) × Windows (now t) (now windows) n1 × (j < length (alternatives-of (now t) n1)) × (l ≤ 281474976710656) × (n + taken-registers l (nth (alternatives-of (now t) n1) j .steps) ≤ 65536) × (at + length (taken-stores l (nth (alternatives-of (now t) n1) j .steps) n) ≤ length (now out)) ⌝ }
     ensures { λ m. ⌜ Marked (now (out .entry)) (now (out .exit)) at m (taken-stores l (nth (alternatives-of (now (t .entry)) n1) j .steps) n) (n + taken-registers l (nth (alternatives-of (now (t .entry)) n1) j .steps)) ⌝ }
 {
+    if l < windows[j as usize] {
+        return choice::Mark {
+            place: at,
+            register: n,
+        };
+    }
     let end = expand::alternative(t, outline, n1, j, meaning::SeqHop::Fixed(0), work, place);
-    let r = pair::pair_registers(&work[place..end], l);
-    let p = pair::pair_stores(&work[place..end], l, n, out, at);
+    let one = &work[place..end];
+    let r = pair::pair_registers(one, l);
+    let p = pair::pair_stores(one, l, n, out, at);
     choice::Mark {
         place: p,
         register: n + r as u32,
@@ -117,6 +172,7 @@ fn nth_pair_stores(
 fn pairs_stores(
     t: &[u32],
     outline: &[u32],
+    windows: &[u64],
     n1: u32,
     l: u64,
     n: u32,
@@ -125,7 +181,7 @@ fn pairs_stores(
     out: &mut [u32],
     at: usize,
 ) -> choice::Mark
-    requires { ⌜ Placed (now t) (now outline) n1 place (length (now work)) × (l ≤ 281474976710656) × (n + pairs-registers l (alternatives-of (now t) n1) ≤ 65536) × (at + length (pairs-stores l (alternatives-of (now t) n1) n) ≤ length (now out)) ⌝ }
+    requires { ⌜ Placed (now t) (now outline) n1 place (length (now work)) × Windows (now t) (now windows) n1 × (l ≤ 281474976710656) × (n + pairs-registers l (alternatives-of (now t) n1) ≤ 65536) × (at + length (pairs-stores l (alternatives-of (now t) n1) n) ≤ length (now out)) ⌝ }
     ensures { λ m. ⌜ Marked (now (out .entry)) (now (out .exit)) at m (pairs-stores l (alternatives-of (now (t .entry)) n1) n) (n + pairs-registers l (alternatives-of (now (t .entry)) n1)) ⌝ }
 {
     let count = expand::count_of(outline, n1);
@@ -133,7 +189,7 @@ fn pairs_stores(
     let mut r = n;
     let mut j = 0;
     while j < count {
-        let m = nth_pair_stores(t, outline, n1, j, l, r, place, work, out, p);
+        let m = nth_pair_stores(t, outline, windows, n1, j, l, r, place, work, out, p);
         p = m.place;
         r = m.register;
         j += 1;
@@ -148,6 +204,7 @@ fn pairs_stores(
 fn row_stores(
     t: &[u32],
     outline: &[u32],
+    windows: &[u64],
     n1: u32,
     n2: u32,
     i: u32,
@@ -156,20 +213,22 @@ fn row_stores(
     out: &mut [u32],
     at: usize,
 ) -> choice::Mark
-    requires { ⌜ Paired (now t) (now outline) n1 n2 (length (now work)) × (i < length (alternatives-of (now t) n2)) × (n + row-registers (alternatives-of (now t) n1) (nth (alternatives-of (now t) n2) i .steps) ≤ 65536) × (at + length (row-stores (alternatives-of (now t) n1) (nth (alternatives-of (now t) n2) i .steps) n) ≤ length (now out)) ⌝ }
+    requires { ⌜ Paired (now t) (now outline) n1 n2 (length (now work)) × Windows (now t) (now windows) n1 × (i < length (alternatives-of (now t) n2)) × (n + row-registers (alternatives-of (now t) n1) (nth (alternatives-of (now t) n2) i .steps) ≤ 65536) × (at + length (row-stores (alternatives-of (now t) n1) (nth (alternatives-of (now t) n2) i .steps) n) ≤ length (now out)) ⌝ }
     ensures { λ m. ⌜ Marked (now (out .entry)) (now (out .exit)) at m (row-stores (alternatives-of (now (t .entry)) n1) (nth (alternatives-of (now (t .entry)) n2) i .steps) n) (n + row-registers (alternatives-of (now (t .entry)) n1) (nth (alternatives-of (now (t .entry)) n2) i .steps)) ⌝ }
 {
     let end = expand::alternative(t, outline, n2, i, meaning::SeqHop::Fixed(0), work, 0);
-    let l = pair::window_len(&work[..end]);
-    let r = n + pair::registers_of(&work[..end]) as u32;
-    let a = pair::stores_of(&work[..end], n, out, at);
-    pairs_stores(t, outline, n1, l, r, end, work, out, a)
+    let two = &work[..end];
+    let l = pair::window_len(two);
+    let r = n + pair::registers_of(two) as u32;
+    let a = pair::stores_of(two, n, out, at);
+    pairs_stores(t, outline, windows, n1, l, r, end, work, out, a)
 }
 
 // All assignments of a within, registers numbered from `first` on.
 fn put_stores(
     t: &[u32],
     outline: &[u32],
+    windows: &[u64],
     n1: u32,
     n2: u32,
     first: u32,
@@ -177,7 +236,7 @@ fn put_stores(
     out: &mut [u32],
     at: usize,
 ) -> usize
-    requires { ⌜ Paired (now t) (now outline) n1 n2 (length (now work)) × (first + all-registers (alternatives-of (now t) n1) (alternatives-of (now t) n2) ≤ 65536) × (at + length (all-stores (alternatives-of (now t) n1) (alternatives-of (now t) n2) first) ≤ length (now out)) ⌝ }
+    requires { ⌜ Paired (now t) (now outline) n1 n2 (length (now work)) × Windows (now t) (now windows) n1 × (first + all-registers (alternatives-of (now t) n1) (alternatives-of (now t) n2) ≤ 65536) × (at + length (all-stores (alternatives-of (now t) n1) (alternatives-of (now t) n2) first) ≤ length (now out)) ⌝ }
     ensures { λ p. ⌜ Wrote (now (out .entry)) (now (out .exit)) at p (all-stores (alternatives-of (now (t .entry)) n1) (alternatives-of (now (t .entry)) n2) first) ⌝ }
 {
     let count = expand::count_of(outline, n2);
@@ -185,7 +244,7 @@ fn put_stores(
     let mut r = first;
     let mut i = 0;
     while i < count {
-        let m = row_stores(t, outline, n1, n2, i, r, work, out, p);
+        let m = row_stores(t, outline, windows, n1, n2, i, r, work, out, p);
         p = m.place;
         r = m.register;
         i += 1;
@@ -194,28 +253,35 @@ fn put_stores(
 }
 
 // The text of the j-th alternative of seq1 beside the one of seq2 whose steps end at `place` and whose registers begin with m.
-// The match begins at `start`.
+// The match begins at `from`.
 fn nth_pair_text(
     t: &[u32],
     outline: &[u32],
+    windows: &[u64],
     n1: u32,
     j: u32,
     l: u64,
     m: u32,
     n: u32,
     place: usize,
-    start: usize,
+    from: usize,
     work: &mut [u32],
     out: &mut [u32],
     at: usize,
 ) -> choice::Mark
-    requires { ⌜ Placed (now t) (now outline) n1 place (length (now work)) × (j < length (alternatives-of (now t) n1)) × (l ≤ 281474976710656) × (start ≤ at) × Kept (take place (now work)) × (m + registers-in (steps-in (take place (now work))) ≤ 65536) × (n + taken-registers l (nth (alternatives-of (now t) n1) j .steps) ≤ 65536) × (at + length (taken-text (at - start) l (text-in (steps-in (take place (now work))) m) (nth (alternatives-of (now t) n1) j .steps) n) ≤ length (now out)) ⌝ }
-    ensures { λ k. ⌜ Marked (now (out .entry)) (now (out .exit)) at k (taken-text (at - start) l (text-in (steps-in (take place (now (work .entry)))) m) (nth (alternatives-of (now (t .entry)) n1) j .steps) n) (n + taken-registers l (nth (alternatives-of (now (t .entry)) n1) j .steps)) ⌝ }
+    requires { ⌜ Placed (now t) (now outline) n1 place (length (now work)) × Windows (now t) (now windows) n1 × (j < length (alternatives-of (now t) n1)) × (l ≤ 281474976710656) × (from ≤ at) × Kept (take place (now work)) × (m + registers-in (steps-in (take place (now work))) ≤ 65536) × (n + taken-registers l (nth (alternatives-of (now t) n1) j .steps) ≤ 65536) × (at + length (taken-text (at - from) l (text-in (steps-in (take place (now work))) m) (nth (alternatives-of (now t) n1) j .steps) n) ≤ length (now out)) ⌝ }
+    ensures { λ k. ⌜ Marked (now (out .entry)) (now (out .exit)) at k (taken-text (at - from) l (text-in (steps-in (take place (now (work .entry)))) m) (nth (alternatives-of (now (t .entry)) n1) j .steps) n) (n + taken-registers l (nth (alternatives-of (now (t .entry)) n1) j .steps)) ⌝ }
     ensures front { λ _. ⌜ take place (now (work .exit)) ≡ take place (now (work .entry)) ⌝ }
 {
+    if l < windows[j as usize] {
+        return choice::Mark {
+            place: at,
+            register: n,
+        };
+    }
     let end = expand::alternative(t, outline, n1, j, meaning::SeqHop::Fixed(0), work, place);
     let r = pair::pair_registers(&work[place..end], l);
-    let p = pair::pair_text_in(work, place, end, m, l, n, at - start, out, at);
+    let p = pair::pair_text_in(work, place, end, m, l, n, at - from, out, at);
     choice::Mark {
         place: p,
         register: n + r as u32,
@@ -226,25 +292,26 @@ fn nth_pair_text(
 fn pairs_texts(
     t: &[u32],
     outline: &[u32],
+    windows: &[u64],
     n1: u32,
     l: u64,
     m: u32,
     n: u32,
-    place: usize,
-    start: usize,
+    end: usize,
+    from: usize,
     work: &mut [u32],
     out: &mut [u32],
     at: usize,
 ) -> choice::Mark
-    requires { ⌜ Placed (now t) (now outline) n1 place (length (now work)) × (l ≤ 281474976710656) × (start ≤ at) × Kept (take place (now work)) × (m + registers-in (steps-in (take place (now work))) ≤ 65536) × (n + pairs-registers l (alternatives-of (now t) n1) ≤ 65536) × (at + length (pairs-texts (at - start) l (text-in (steps-in (take place (now work))) m) (alternatives-of (now t) n1) n) ≤ length (now out)) ⌝ }
-    ensures { λ k. ⌜ Marked (now (out .entry)) (now (out .exit)) at k (pairs-texts (at - start) l (text-in (steps-in (take place (now (work .entry)))) m) (alternatives-of (now (t .entry)) n1) n) (n + pairs-registers l (alternatives-of (now (t .entry)) n1)) ⌝ }
+    requires { ⌜ Placed (now t) (now outline) n1 end (length (now work)) × Windows (now t) (now windows) n1 × (l ≤ 281474976710656) × (from ≤ at) × Kept (take end (now work)) × (m + registers-in (steps-in (take end (now work))) ≤ 65536) × (n + pairs-registers l (alternatives-of (now t) n1) ≤ 65536) × (at + length (pairs-texts (at - from) l (text-in (steps-in (take end (now work))) m) (alternatives-of (now t) n1) n) ≤ length (now out)) ⌝ }
+    ensures { λ k. ⌜ Marked (now (out .entry)) (now (out .exit)) at k (pairs-texts (at - from) l (text-in (steps-in (take end (now (work .entry)))) m) (alternatives-of (now (t .entry)) n1) n) (n + pairs-registers l (alternatives-of (now (t .entry)) n1)) ⌝ }
 {
     let count = expand::count_of(outline, n1);
     let mut p = at;
     let mut r = n;
     let mut j = 0;
     while j < count {
-        let k = nth_pair_text(t, outline, n1, j, l, m, r, place, start, work, out, p);
+        let k = nth_pair_text(t, outline, windows, n1, j, l, m, r, end, from, work, out, p);
         p = k.place;
         r = k.register;
         j += 1;
@@ -259,28 +326,31 @@ fn pairs_texts(
 fn row_texts(
     t: &[u32],
     outline: &[u32],
+    windows: &[u64],
     n1: u32,
     n2: u32,
     i: u32,
     n: u32,
-    start: usize,
+    from: usize,
     work: &mut [u32],
     out: &mut [u32],
     at: usize,
 ) -> choice::Mark
-    requires { ⌜ Paired (now t) (now outline) n1 n2 (length (now work)) × (i < length (alternatives-of (now t) n2)) × (start ≤ at) × (n + row-registers (alternatives-of (now t) n1) (nth (alternatives-of (now t) n2) i .steps) ≤ 65536) × (at + length (row-texts (at - start) (alternatives-of (now t) n1) (nth (alternatives-of (now t) n2) i .steps) n) ≤ length (now out)) ⌝ }
-    ensures { λ k. ⌜ Marked (now (out .entry)) (now (out .exit)) at k (row-texts (at - start) (alternatives-of (now (t .entry)) n1) (nth (alternatives-of (now (t .entry)) n2) i .steps) n) (n + row-registers (alternatives-of (now (t .entry)) n1) (nth (alternatives-of (now (t .entry)) n2) i .steps)) ⌝ }
+    requires { ⌜ Paired (now t) (now outline) n1 n2 (length (now work)) × Windows (now t) (now windows) n1 × (i < length (alternatives-of (now t) n2)) × (from ≤ at) × (n + row-registers (alternatives-of (now t) n1) (nth (alternatives-of (now t) n2) i .steps) ≤ 65536) × (at + length (row-texts (at - from) (alternatives-of (now t) n1) (nth (alternatives-of (now t) n2) i .steps) n) ≤ length (now out)) ⌝ }
+    ensures { λ k. ⌜ Marked (now (out .entry)) (now (out .exit)) at k (row-texts (at - from) (alternatives-of (now (t .entry)) n1) (nth (alternatives-of (now (t .entry)) n2) i .steps) n) (n + row-registers (alternatives-of (now (t .entry)) n1) (nth (alternatives-of (now (t .entry)) n2) i .steps)) ⌝ }
 {
     let end = expand::alternative(t, outline, n2, i, meaning::SeqHop::Fixed(0), work, 0);
-    let l = pair::window_len(&work[..end]);
-    let r = n + pair::registers_of(&work[..end]) as u32;
-    pairs_texts(t, outline, n1, l, n, r, end, start, work, out, at)
+    let two = &work[..end];
+    let l = pair::window_len(two);
+    let r = n + pair::registers_of(two) as u32;
+    pairs_texts(t, outline, windows, n1, l, n, r, end, from, work, out, at)
 }
 
 // The texts of all pairs.
 fn all_texts(
     t: &[u32],
     outline: &[u32],
+    windows: &[u64],
     n1: u32,
     n2: u32,
     first: u32,
@@ -288,7 +358,7 @@ fn all_texts(
     out: &mut [u32],
     at: usize,
 ) -> usize
-    requires { ⌜ Paired (now t) (now outline) n1 n2 (length (now work)) × (first + all-registers (alternatives-of (now t) n1) (alternatives-of (now t) n2) ≤ 65536) × (at + length (all-texts 0 (alternatives-of (now t) n1) (alternatives-of (now t) n2) first) ≤ length (now out)) ⌝ }
+    requires { ⌜ Paired (now t) (now outline) n1 n2 (length (now work)) × Windows (now t) (now windows) n1 × (first + all-registers (alternatives-of (now t) n1) (alternatives-of (now t) n2) ≤ 65536) × (at + length (all-texts 0 (alternatives-of (now t) n1) (alternatives-of (now t) n2) first) ≤ length (now out)) ⌝ }
     ensures { λ p. ⌜ Wrote (now (out .entry)) (now (out .exit)) at p (all-texts 0 (alternatives-of (now (t .entry)) n1) (alternatives-of (now (t .entry)) n2) first) ⌝ }
 {
     let count = expand::count_of(outline, n2);
@@ -296,7 +366,7 @@ fn all_texts(
     let mut r = first;
     let mut i = 0;
     while i < count {
-        let k = row_texts(t, outline, n1, n2, i, r, at, work, out, p);
+        let k = row_texts(t, outline, windows, n1, n2, i, r, at, work, out, p);
         p = k.place;
         r = k.register;
         i += 1;
@@ -308,6 +378,7 @@ fn all_texts(
 fn put_match(
     t: &[u32],
     outline: &[u32],
+    windows: &[u64],
     n1: u32,
     n2: u32,
     first: u32,
@@ -315,10 +386,10 @@ fn put_match(
     out: &mut [u32],
     at: usize,
 ) -> usize
-    requires { ⌜ Paired (now t) (now outline) n1 n2 (length (now work)) × (first + all-registers (alternatives-of (now t) n1) (alternatives-of (now t) n2) ≤ 65536) × (at + length (or-zero (all-texts 0 (alternatives-of (now t) n1) (alternatives-of (now t) n2) first)) ≤ length (now out)) ⌝ }
+    requires { ⌜ Paired (now t) (now outline) n1 n2 (length (now work)) × Windows (now t) (now windows) n1 × (first + all-registers (alternatives-of (now t) n1) (alternatives-of (now t) n2) ≤ 65536) × (at + length (or-zero (all-texts 0 (alternatives-of (now t) n1) (alternatives-of (now t) n2) first)) ≤ length (now out)) ⌝ }
     ensures { λ p. ⌜ Wrote (now (out .entry)) (now (out .exit)) at p (or-zero (all-texts 0 (alternatives-of (now (t .entry)) n1) (alternatives-of (now (t .entry)) n2) first)) ⌝ }
 {
-    let p = all_texts(t, outline, n1, n2, first, work, out, at);
+    let p = all_texts(t, outline, windows, n1, n2, first, work, out, at);
     if p == at {
         return words::put(out, at, step_text::ZERO);
     }
@@ -340,6 +411,7 @@ fn plus(a: sizes::Size, b: sizes::Size) -> sizes::Size
 fn nth_pair_size(
     t: &[u32],
     outline: &[u32],
+    windows: &[u64],
     n1: u32,
     j: u32,
     l: u64,
@@ -347,10 +419,13 @@ fn nth_pair_size(
     place: usize,
     work: &mut [u32],
 ) -> sizes::Size
-    requires { ⌜ Placed (now t) (now outline) n1 place (length (now work)) × (j < length (alternatives-of (now t) n1)) × (taken-registers l (nth (alternatives-of (now t) n1) j .steps) ≤ 65536) × (two ≤ 1048576) ⌝ }
+    requires { ⌜ Placed (now t) (now outline) n1 place (length (now work)) × Windows (now t) (now windows) n1 × (j < length (alternatives-of (now t) n1)) × (taken-registers l (nth (alternatives-of (now t) n1) j .steps) ≤ 65536) × (two ≤ 1048576) ⌝ }
     ensures { λ r. ⌜ r ≡ taken-size l two (nth (alternatives-of (now (t .entry)) n1) j .steps) ⌝ }
     ensures small { λ r. ⌜ (r .text ≤ 4194304) × (r .stores ≤ 18014398509481984) ⌝ }
 {
+    if l < windows[j as usize] {
+        return sizes::Size { text: 0, stores: 0 };
+    }
     let end = expand::alternative(t, outline, n1, j, meaning::SeqHop::Fixed(0), work, place);
     pair::pair_size(&work[place..end], l, two)
 }
@@ -359,13 +434,14 @@ fn nth_pair_size(
 fn pairs_size(
     t: &[u32],
     outline: &[u32],
+    windows: &[u64],
     n1: u32,
     l: u64,
     two: u64,
     place: usize,
     work: &mut [u32],
 ) -> sizes::Size
-    requires { ⌜ Placed (now t) (now outline) n1 place (length (now work)) × (pairs-registers l (alternatives-of (now t) n1) ≤ 65536) × (two ≤ 1048576) ⌝ }
+    requires { ⌜ Placed (now t) (now outline) n1 place (length (now work)) × Windows (now t) (now windows) n1 × (pairs-registers l (alternatives-of (now t) n1) ≤ 65536) × (two ≤ 1048576) ⌝ }
     ensures { λ r. ⌜ r ≡ pairs-size l two (alternatives-of (now (t .entry)) n1) ⌝ }
     ensures small { λ r. ⌜ (r .text ≤ length (alternatives-of (now (t .entry)) n1) * 4194304) × (r .stores ≤ length (alternatives-of (now (t .entry)) n1) * 18014398509481984) ⌝ }
 {
@@ -373,7 +449,7 @@ fn pairs_size(
     let mut total = sizes::Size { text: 0, stores: 0 };
     let mut j = 0;
     while j < count {
-        let s = nth_pair_size(t, outline, n1, j, l, two, place, work);
+        let s = nth_pair_size(t, outline, windows, n1, j, l, two, place, work);
         total = plus(total, s);
         j += 1;
     }
@@ -381,15 +457,24 @@ fn pairs_size(
 }
 
 // Of the i-th alternative of seq2 and its pairs.
-fn row_size(t: &[u32], outline: &[u32], n1: u32, n2: u32, i: u32, work: &mut [u32]) -> sizes::Size
-    requires { ⌜ Paired (now t) (now outline) n1 n2 (length (now work)) × (i < length (alternatives-of (now t) n2)) × (row-registers (alternatives-of (now t) n1) (nth (alternatives-of (now t) n2) i .steps) ≤ 65536) ⌝ }
+fn row_size(
+    t: &[u32],
+    outline: &[u32],
+    windows: &[u64],
+    n1: u32,
+    n2: u32,
+    i: u32,
+    work: &mut [u32],
+) -> sizes::Size
+    requires { ⌜ Paired (now t) (now outline) n1 n2 (length (now work)) × Windows (now t) (now windows) n1 × (i < length (alternatives-of (now t) n2)) × (row-registers (alternatives-of (now t) n1) (nth (alternatives-of (now t) n2) i .steps) ≤ 65536) ⌝ }
     ensures { λ r. ⌜ r ≡ row-size (alternatives-of (now (t .entry)) n1) (nth (alternatives-of (now (t .entry)) n2) i .steps) ⌝ }
     ensures small { λ r. ⌜ (r .text ≤ (length (alternatives-of (now (t .entry)) n1) + 1) * 4194304) × (r .stores ≤ (length (alternatives-of (now (t .entry)) n1) + 1) * 18014398509481984) ⌝ }
 {
     let end = expand::alternative(t, outline, n2, i, meaning::SeqHop::Fixed(0), work, 0);
-    let l = pair::window_len(&work[..end]);
-    let own = pair::size_of(&work[..end]);
-    let pairs = pairs_size(t, outline, n1, l, own.text, end, work);
+    let two = &work[..end];
+    let l = pair::window_len(two);
+    let own = pair::size_of(two);
+    let pairs = pairs_size(t, outline, windows, n1, l, own.text, end, work);
     let first = sizes::Size {
         text: 0,
         stores: own.stores,
@@ -398,8 +483,15 @@ fn row_size(t: &[u32], outline: &[u32], n1: u32, n2: u32, i: u32, work: &mut [u3
 }
 
 // Of all alternatives of seq2.
-fn all_size(t: &[u32], outline: &[u32], n1: u32, n2: u32, work: &mut [u32]) -> sizes::Size
-    requires { ⌜ Paired (now t) (now outline) n1 n2 (length (now work)) × (all-registers (alternatives-of (now t) n1) (alternatives-of (now t) n2) ≤ 65536) ⌝ }
+fn all_size(
+    t: &[u32],
+    outline: &[u32],
+    windows: &[u64],
+    n1: u32,
+    n2: u32,
+    work: &mut [u32],
+) -> sizes::Size
+    requires { ⌜ Paired (now t) (now outline) n1 n2 (length (now work)) × Windows (now t) (now windows) n1 × (all-registers (alternatives-of (now t) n1) (alternatives-of (now t) n2) ≤ 65536) ⌝ }
     ensures { λ r. ⌜ r ≡ all-size (alternatives-of (now (t .entry)) n1) (alternatives-of (now (t .entry)) n2) ⌝ }
     ensures small { λ r. ⌜ (r .text ≤ 2147483648) × (r .stores ≤ 9223372036854775808) ⌝ }
 {
@@ -407,7 +499,7 @@ fn all_size(t: &[u32], outline: &[u32], n1: u32, n2: u32, work: &mut [u32]) -> s
     let mut total = sizes::Size { text: 0, stores: 0 };
     let mut i = 0;
     while i < count {
-        let s = row_size(t, outline, n1, n2, i, work);
+        let s = row_size(t, outline, windows, n1, n2, i, work);
         total = plus(total, s);
         i += 1;
     }
@@ -431,7 +523,9 @@ pub fn word_count(t: &[u32], outline: &[u32], n1: u32, n2: u32, work: &mut [u32]
     requires { ⌜ Paired (now t) (now outline) n1 n2 (length (now work)) × (all-registers (alternatives-of (now t) n1) (alternatives-of (now t) n2) ≤ 65536) ⌝ }
     ensures { λ r. ⌜ r ≡ words-in (alternatives-of (now (t .entry)) n1) (alternatives-of (now (t .entry)) n2) ⌝ }
 {
-    let s = all_size(t, outline, n1, n2, work);
+    let mut windows = [0u64; 256];
+    put_windows(t, outline, n1, work, &mut windows);
+    let s = all_size(t, outline, &windows, n1, n2, work);
     let text = match_size(s.text);
     s.stores + (text + 1)
 }
@@ -449,7 +543,9 @@ pub fn write(
     requires { ⌜ Paired (now t) (now outline) n1 n2 (length (now work)) × (first + all-registers (alternatives-of (now t) n1) (alternatives-of (now t) n2) ≤ 65536) × (length (within-words (alternatives-of (now t) n1) (alternatives-of (now t) n2) first) ≤ length (now out)) ⌝ }
     ensures { λ end. ⌜ Wrote (now (out .entry)) (now (out .exit)) 0 end (within-words (alternatives-of (now (t .entry)) n1) (alternatives-of (now (t .entry)) n2) first) ⌝ }
 {
-    let a = put_stores(t, outline, n1, n2, first, work, out, 0);
-    let b = put_match(t, outline, n1, n2, first, work, out, a);
+    let mut windows = [0u64; 256];
+    put_windows(t, outline, n1, work, &mut windows);
+    let a = put_stores(t, outline, &windows, n1, n2, first, work, out, 0);
+    let b = put_match(t, outline, &windows, n1, n2, first, work, out, a);
     words::put(out, b, MATCH)
 }

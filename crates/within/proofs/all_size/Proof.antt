@@ -7,10 +7,10 @@ use Rattle.within.proofs.all_size.Statement.{statement}
 use Rattle.within.proofs.all_size.Tie as tie
 
 abbrev Inv-loop : tie.InvT-loop
-Inv-loop t outline n1 n2 work₀ count total₀ i₀ work total i = AllSizes t n1 n2 count work₀ work total i
+Inv-loop t outline windows n1 n2 work₀ count total₀ i₀ work total i = AllSizes t n1 n2 count work₀ work total i
 
 abbrev μ-loop : tie.MeasureT-loop
-μ-loop t outline n1 n2 work₀ count total₀ i₀ work total i = count - i
+μ-loop t outline windows n1 n2 work₀ count total₀ i₀ work total i = count - i
 
 count-of-requires : tie.Need-count-of-requires Inv-loop μ-loop
 count-of-requires c κs = search (placed-outline, seq2-placed)
@@ -19,7 +19,7 @@ loop-holds : tie.Need-loop-holds Inv-loop μ-loop
 loop-holds c = search (all-sizes-begin, placed-count, seq2-placed)
 
 row-size-requires : tie.Need-row-size-requires Inv-loop μ-loop
-row-size-requires c κs = (search still-paired, search needs, search all-sizes-small)
+row-size-requires c κs = (search still-paired, search needs, search needs, search all-sizes-small)
 
 plus-requires : tie.Need-plus-requires Inv-loop μ-loop
 plus-requires c κs = (search all-sizes-text-fits, search all-sizes-stores-fit)

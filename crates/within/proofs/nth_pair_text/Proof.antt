@@ -1,10 +1,20 @@
--- `nth_pair_text` writes the text of the pair whose alternatives stand in work, and leaves seq2's there.
+-- `nth_pair_text` writes the text of the pair whose alternatives stand in work, and leaves seq2's there; a pair that does not fit is skipped before.
 use borrow.Author.Needs.{needs}
 use Rattle.within.proofs.Rows.{placed-number, placed-room, part-kept, part-ends}
+use Rattle.within.proofs.Windows.{no-text}
 use Rattle.within.proofs.Numbering.{part-registers-small, part-registers-fit, part-register-fits}
 use Rattle.within.proofs.TextPass.{front-stays, front-stays-kept, front-stays-small, part-text-room, part-text-done}
 use Rattle.within.proofs.nth_pair_text.Statement.{statement}
 use Rattle.within.proofs.nth_pair_text.Tie as tie
+
+mul-if1 : tie.Need-mul-if1
+mul-if1 c = search needs
+
+shared-slice-read-if1 : tie.Need-shared-slice-read-if1
+shared-slice-read-if1 c = search needs
+
+returns : tie.Need-returns
+returns c = (search no-text, search needs)
 
 alternative-requires : tie.Need-alternative-requires
 alternative-requires c κs = (search placed-number, search needs, search placed-room)
@@ -30,11 +40,11 @@ sub-pair-text-in c = search needs
 pair-text-in-requires : tie.Need-pair-text-in-requires
 pair-text-in-requires c κs = (search needs, search part-ends, search front-stays-kept, search part-kept, search front-stays-small, search part-registers-small, search part-text-room)
 
-cast-t28 : tie.Need-cast-t28
-cast-t28 c = search part-registers-fit
+cast-t32 : tie.Need-cast-t32
+cast-t32 c = search part-registers-fit
 
-add-t29 : tie.Need-add-t29
-add-t29 c = search part-register-fits
+add-t33 : tie.Need-add-t33
+add-t33 c = search part-register-fits
 
 same-length : tie.Need-same-length
 same-length c = search needs
@@ -42,13 +52,16 @@ same-length c = search needs
 same-length-2 : tie.Need-same-length-2
 same-length-2 c = search needs
 
-returns : tie.Need-returns
-returns c = (search part-text-done, search front-stays)
+returns-2 : tie.Need-returns-2
+returns-2 c = (search part-text-done, search front-stays)
 
 pub nth-pair-text-spec : {M : Type 1} → statement M
 nth-pair-text-spec =
     tie.close
     (tie.spec
+    mul-if1
+    shared-slice-read-if1
+    returns
     alternative-requires
     mul-pair-registers
     sub-pair-registers
@@ -57,8 +70,8 @@ nth-pair-text-spec =
     pair-registers-requires
     sub-pair-text-in
     pair-text-in-requires
-    cast-t28
-    add-t29
+    cast-t32
+    add-t33
     same-length
     same-length-2
-    returns)
+    returns-2)

@@ -7,10 +7,10 @@ use Rattle.within.proofs.pairs_registers.Statement.{statement}
 use Rattle.within.proofs.pairs_registers.Tie as tie
 
 abbrev Inv-loop : tie.InvT-loop
-Inv-loop t outline n1 l place work₀ count total₀ j₀ work total j = PairRegisters t n1 l count work₀ work total j
+Inv-loop t outline windows n1 l place work₀ count total₀ j₀ work total j = PairRegisters t n1 l count work₀ work total j
 
 abbrev μ-loop : tie.MeasureT-loop
-μ-loop t outline n1 l place work₀ count total₀ j₀ work total j = count - j
+μ-loop t outline windows n1 l place work₀ count total₀ j₀ work total j = count - j
 
 count-of-requires : tie.Need-count-of-requires Inv-loop μ-loop
 count-of-requires c κs = search placed-outline
@@ -19,7 +19,7 @@ loop-holds : tie.Need-loop-holds Inv-loop μ-loop
 loop-holds c = search (pair-registers-begin, placed-count)
 
 nth-pair-registers-requires : tie.Need-nth-pair-registers-requires Inv-loop μ-loop
-nth-pair-registers-requires c κs = (search still-placed, search needs, search needs)
+nth-pair-registers-requires c κs = (search still-placed, search needs, search needs, search needs)
 
 add-total : tie.Need-add-total Inv-loop μ-loop
 add-total c = search pair-registers-fit

@@ -7,10 +7,10 @@ use Rattle.within.proofs.pairs_size.Statement.{statement}
 use Rattle.within.proofs.pairs_size.Tie as tie
 
 abbrev Inv-loop : tie.InvT-loop
-Inv-loop t outline n1 l two place work₀ count total₀ j₀ work total j = PairSizes t n1 l two count work₀ work total j
+Inv-loop t outline windows n1 l two place work₀ count total₀ j₀ work total j = PairSizes t n1 l two count work₀ work total j
 
 abbrev μ-loop : tie.MeasureT-loop
-μ-loop t outline n1 l two place work₀ count total₀ j₀ work total j = count - j
+μ-loop t outline windows n1 l two place work₀ count total₀ j₀ work total j = count - j
 
 count-of-requires : tie.Need-count-of-requires Inv-loop μ-loop
 count-of-requires c κs = search placed-outline
@@ -19,7 +19,7 @@ loop-holds : tie.Need-loop-holds Inv-loop μ-loop
 loop-holds c = search (pair-sizes-begin, placed-count)
 
 nth-pair-size-requires : tie.Need-nth-pair-size-requires Inv-loop μ-loop
-nth-pair-size-requires c κs = (search still-placed, search needs, search pair-sizes-small, search needs)
+nth-pair-size-requires c κs = (search still-placed, search needs, search needs, search pair-sizes-small, search needs)
 
 plus-requires : tie.Need-plus-requires Inv-loop μ-loop
 plus-requires c κs = (search pair-sizes-text-fits, search pair-sizes-stores-fit)

@@ -8,10 +8,10 @@ use Rattle.within.proofs.pairs_stores.Statement.{statement}
 use Rattle.within.proofs.pairs_stores.Tie as tie
 
 abbrev Inv-loop : tie.InvT-loop
-Inv-loop t outline n1 l n place work₀ out₀ at count p₀ r₀ j₀ work out p r j = PairStores t n1 l n count work₀ work out₀ at out p r j
+Inv-loop t outline windows n1 l n place work₀ out₀ at count p₀ r₀ j₀ work out p r j = PairStores t n1 l n count work₀ work out₀ at out p r j
 
 abbrev μ-loop : tie.MeasureT-loop
-μ-loop t outline n1 l n place work₀ out₀ at count p₀ r₀ j₀ work out p r j = count - j
+μ-loop t outline windows n1 l n place work₀ out₀ at count p₀ r₀ j₀ work out p r j = count - j
 
 count-of-requires : tie.Need-count-of-requires Inv-loop μ-loop
 count-of-requires c κs = search placed-outline
@@ -20,7 +20,7 @@ loop-holds : tie.Need-loop-holds Inv-loop μ-loop
 loop-holds c = search (pair-stores-begin, placed-count)
 
 nth-pair-stores-requires : tie.Need-nth-pair-stores-requires Inv-loop μ-loop
-nth-pair-stores-requires c κs = (search still-placed, search needs, search needs, search pair-numbers-small, search pair-stores-room)
+nth-pair-stores-requires c κs = (search still-placed, search needs, search needs, search needs, search pair-numbers-small, search pair-stores-room)
 
 add-j : tie.Need-add-j Inv-loop μ-loop
 add-j c = search needs

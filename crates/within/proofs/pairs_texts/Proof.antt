@@ -8,10 +8,10 @@ use Rattle.within.proofs.pairs_texts.Statement.{statement}
 use Rattle.within.proofs.pairs_texts.Tie as tie
 
 abbrev Inv-loop : tie.InvT-loop
-Inv-loop t outline n1 l m n place start work₀ out₀ at count p₀ r₀ j₀ work out p r j = PairTexts t n1 l m n place start count work₀ work out₀ at out p r j
+Inv-loop t outline windows n1 l m n end from work₀ out₀ at count p₀ r₀ j₀ work out p r j = PairTexts t n1 l m n end from count work₀ work out₀ at out p r j
 
 abbrev μ-loop : tie.MeasureT-loop
-μ-loop t outline n1 l m n place start work₀ out₀ at count p₀ r₀ j₀ work out p r j = count - j
+μ-loop t outline windows n1 l m n end from work₀ out₀ at count p₀ r₀ j₀ work out p r j = count - j
 
 count-of-requires : tie.Need-count-of-requires Inv-loop μ-loop
 count-of-requires c κs = search placed-outline
@@ -20,7 +20,7 @@ loop-holds : tie.Need-loop-holds Inv-loop μ-loop
 loop-holds c = search (pair-texts-begin, placed-count)
 
 nth-pair-text-requires : tie.Need-nth-pair-text-requires Inv-loop μ-loop
-nth-pair-text-requires c κs = (search still-placed, search needs, search needs, search needs, search texts-front-kept, search texts-front-small, search pair-numbers-small, search pair-texts-room)
+nth-pair-text-requires c κs = (search still-placed, search needs, search needs, search needs, search needs, search texts-front-kept, search texts-front-small, search pair-numbers-small, search pair-texts-room)
 
 add-j : tie.Need-add-j Inv-loop μ-loop
 add-j c = search needs

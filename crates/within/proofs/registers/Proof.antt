@@ -1,56 +1,34 @@
--- `registers` adds up all alternatives of seq2; what is left is said in `AllRegisters`.
+-- `registers` measures the windows of seq1's alternatives, then adds up those of seq2.
 use borrow.Author.Needs.{needs}
-use Prim.Native.Nat.{_-_}
-use Rattle.within.proofs.Rows.{placed-outline, placed-count, seq2-placed, still-paired}
-use Rattle.within.proofs.RegisterPass.{AllRegisters, all-registers-begin, all-registers-on, all-registers-fit, all-registers-end}
+use Rattle.within.proofs.Rows.{seq1-alone, still-paired}
 use Rattle.within.proofs.registers.Statement.{statement}
 use Rattle.within.proofs.registers.Tie as tie
 
-abbrev Inv-loop : tie.InvT-loop
-Inv-loop t outline n1 n2 work₀ count total₀ i₀ work total i = AllRegisters t n1 n2 count work₀ work total i
+slice-aggregate-put-windows : tie.Need-slice-aggregate-put-windows
+slice-aggregate-put-windows c = search needs
 
-abbrev μ-loop : tie.MeasureT-loop
-μ-loop t outline n1 n2 work₀ count total₀ i₀ work total i = count - i
+put-windows-requires : tie.Need-put-windows-requires
+put-windows-requires c κs = (search seq1-alone, search needs)
 
-count-of-requires : tie.Need-count-of-requires Inv-loop μ-loop
-count-of-requires c κs = search (placed-outline, seq2-placed)
+slice-aggregate-all-registers : tie.Need-slice-aggregate-all-registers
+slice-aggregate-all-registers c = search needs
 
-loop-holds : tie.Need-loop-holds Inv-loop μ-loop
-loop-holds c = search (all-registers-begin, placed-count, seq2-placed)
+all-registers-requires : tie.Need-all-registers-requires
+all-registers-requires c κs = (search still-paired, search needs)
 
-row-registers-requires : tie.Need-row-registers-requires Inv-loop μ-loop
-row-registers-requires c κs = (search still-paired, search needs)
-
-add-total : tie.Need-add-total Inv-loop μ-loop
-add-total c = search all-registers-fit
-
-add-i : tie.Need-add-i Inv-loop μ-loop
-add-i c = search needs
-
-loop-less : tie.Need-loop-less Inv-loop μ-loop
-loop-less c = search needs
-
-loop-again : tie.Need-loop-again Inv-loop μ-loop
-loop-again c = search all-registers-on
-
-same-length : tie.Need-same-length Inv-loop μ-loop
+same-length : tie.Need-same-length
 same-length c = search needs
 
-returns : tie.Need-returns Inv-loop μ-loop
-returns c = search all-registers-end
+returns : tie.Need-returns
+returns c = search needs
 
 pub registers-spec : {M : Type 1} → statement M
 registers-spec =
     tie.close
     (tie.spec
-    Inv-loop
-    μ-loop
-    count-of-requires
-    loop-holds
-    row-registers-requires
-    add-total
-    add-i
-    loop-less
-    loop-again
+    slice-aggregate-put-windows
+    put-windows-requires
+    slice-aggregate-all-registers
+    all-registers-requires
     same-length
     returns)

@@ -8,26 +8,20 @@ use Rattle.within.proofs.row_registers.Tie as tie
 alternative-requires : tie.Need-alternative-requires
 alternative-requires c κs = (search needs, search needs, search (placed-room, seq2-placed))
 
-slice-reshare-prefix-window-len : tie.Need-slice-reshare-prefix-window-len
-slice-reshare-prefix-window-len c = search (part-ends, seq2-placed)
+slice-reshare-prefix-two : tie.Need-slice-reshare-prefix-two
+slice-reshare-prefix-two c = search (part-ends, seq2-placed)
 
-slice-aggregate-window-len : tie.Need-slice-aggregate-window-len
-slice-aggregate-window-len c = search (front-measured, seq2-placed)
+slice-aggregate-two : tie.Need-slice-aggregate-two
+slice-aggregate-two c = search (front-measured, seq2-placed)
 
 window-len-requires : tie.Need-window-len-requires
 window-len-requires c κs = search (front-stands, seq2-placed)
-
-slice-reshare-prefix-registers-of : tie.Need-slice-reshare-prefix-registers-of
-slice-reshare-prefix-registers-of c = search (part-ends, seq2-placed)
-
-slice-aggregate-registers-of : tie.Need-slice-aggregate-registers-of
-slice-aggregate-registers-of c = search (front-measured, seq2-placed)
 
 registers-of-requires : tie.Need-registers-of-requires
 registers-of-requires c κs = search (front-stands, seq2-placed)
 
 pairs-registers-requires : tie.Need-pairs-registers-requires
-pairs-registers-requires c κs = (search seq1-placed, search needs)
+pairs-registers-requires c κs = (search seq1-placed, search needs, search needs)
 
 add-result : tie.Need-add-result
 add-result c = search row-registers-fit
@@ -43,11 +37,9 @@ row-registers-spec =
     tie.close
     (tie.spec
     alternative-requires
-    slice-reshare-prefix-window-len
-    slice-aggregate-window-len
+    slice-reshare-prefix-two
+    slice-aggregate-two
     window-len-requires
-    slice-reshare-prefix-registers-of
-    slice-aggregate-registers-of
     registers-of-requires
     pairs-registers-requires
     add-result

@@ -8,26 +8,20 @@ use Rattle.within.proofs.row_size.Tie as tie
 alternative-requires : tie.Need-alternative-requires
 alternative-requires c κs = (search needs, search needs, search (placed-room, seq2-placed))
 
-slice-reshare-prefix-window-len : tie.Need-slice-reshare-prefix-window-len
-slice-reshare-prefix-window-len c = search (part-ends, seq2-placed)
+slice-reshare-prefix-two : tie.Need-slice-reshare-prefix-two
+slice-reshare-prefix-two c = search (part-ends, seq2-placed)
 
-slice-aggregate-window-len : tie.Need-slice-aggregate-window-len
-slice-aggregate-window-len c = search (front-measured, seq2-placed)
+slice-aggregate-two : tie.Need-slice-aggregate-two
+slice-aggregate-two c = search (front-measured, seq2-placed)
 
 window-len-requires : tie.Need-window-len-requires
 window-len-requires c κs = search (front-stands, seq2-placed)
-
-slice-reshare-prefix-size-of : tie.Need-slice-reshare-prefix-size-of
-slice-reshare-prefix-size-of c = search (part-ends, seq2-placed)
-
-slice-aggregate-size-of : tie.Need-slice-aggregate-size-of
-slice-aggregate-size-of c = search (front-measured, seq2-placed)
 
 size-of-requires : tie.Need-size-of-requires
 size-of-requires c κs = (search (front-stands, seq2-placed), search row-size-own-small)
 
 pairs-size-requires : tie.Need-pairs-size-requires
-pairs-size-requires c κs = (search seq1-placed, search row-size-pairs-small, search needs)
+pairs-size-requires c κs = (search seq1-placed, search needs, search row-size-pairs-small, search needs)
 
 plus-requires : tie.Need-plus-requires
 plus-requires c κs = (search row-size-text-fits, search row-size-stores-fit)
@@ -43,11 +37,9 @@ row-size-spec =
     tie.close
     (tie.spec
     alternative-requires
-    slice-reshare-prefix-window-len
-    slice-aggregate-window-len
+    slice-reshare-prefix-two
+    slice-aggregate-two
     window-len-requires
-    slice-reshare-prefix-size-of
-    slice-aggregate-size-of
     size-of-requires
     pairs-size-requires
     plus-requires

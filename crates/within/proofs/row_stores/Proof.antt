@@ -9,20 +9,14 @@ use Rattle.within.proofs.row_stores.Tie as tie
 alternative-requires : tie.Need-alternative-requires
 alternative-requires c κs = (search needs, search needs, search (placed-room, seq2-placed))
 
-slice-reshare-prefix-window-len : tie.Need-slice-reshare-prefix-window-len
-slice-reshare-prefix-window-len c = search (part-ends, seq2-placed)
+slice-reshare-prefix-two : tie.Need-slice-reshare-prefix-two
+slice-reshare-prefix-two c = search (part-ends, seq2-placed)
 
-slice-aggregate-window-len : tie.Need-slice-aggregate-window-len
-slice-aggregate-window-len c = search (front-measured, seq2-placed)
+slice-aggregate-two : tie.Need-slice-aggregate-two
+slice-aggregate-two c = search (front-measured, seq2-placed)
 
 window-len-requires : tie.Need-window-len-requires
 window-len-requires c κs = search (front-stands, seq2-placed)
-
-slice-reshare-prefix-registers-of : tie.Need-slice-reshare-prefix-registers-of
-slice-reshare-prefix-registers-of c = search (part-ends, seq2-placed)
-
-slice-aggregate-registers-of : tie.Need-slice-aggregate-registers-of
-slice-aggregate-registers-of c = search (front-measured, seq2-placed)
 
 registers-of-requires : tie.Need-registers-of-requires
 registers-of-requires c κs = search (front-stands, seq2-placed)
@@ -33,17 +27,11 @@ cast-r c = search row-own-fits
 add-r : tie.Need-add-r
 add-r c = search row-register-fits
 
-slice-reshare-prefix-stores-of : tie.Need-slice-reshare-prefix-stores-of
-slice-reshare-prefix-stores-of c = search (part-ends, seq2-placed)
-
-slice-aggregate-stores-of : tie.Need-slice-aggregate-stores-of
-slice-aggregate-stores-of c = search (front-measured, seq2-placed)
-
 stores-of-requires : tie.Need-stores-of-requires
 stores-of-requires c κs = (search (front-stands, seq2-placed), search row-own-small, search row-own-room)
 
 pairs-stores-requires : tie.Need-pairs-stores-requires
-pairs-stores-requires c κs = (search seq1-placed, search needs, search row-pairs-small, search row-pairs-room)
+pairs-stores-requires c κs = (search seq1-placed, search needs, search needs, search row-pairs-small, search row-pairs-room)
 
 same-length : tie.Need-same-length
 same-length c = search needs
@@ -59,16 +47,12 @@ row-stores-spec =
     tie.close
     (tie.spec
     alternative-requires
-    slice-reshare-prefix-window-len
-    slice-aggregate-window-len
+    slice-reshare-prefix-two
+    slice-aggregate-two
     window-len-requires
-    slice-reshare-prefix-registers-of
-    slice-aggregate-registers-of
     registers-of-requires
     cast-r
     add-r
-    slice-reshare-prefix-stores-of
-    slice-aggregate-stores-of
     stores-of-requires
     pairs-stores-requires
     same-length

@@ -9,20 +9,14 @@ use Rattle.within.proofs.row_texts.Tie as tie
 alternative-requires : tie.Need-alternative-requires
 alternative-requires c κs = (search needs, search needs, search (placed-room, seq2-placed))
 
-slice-reshare-prefix-window-len : tie.Need-slice-reshare-prefix-window-len
-slice-reshare-prefix-window-len c = search (part-ends, seq2-placed)
+slice-reshare-prefix-two : tie.Need-slice-reshare-prefix-two
+slice-reshare-prefix-two c = search (part-ends, seq2-placed)
 
-slice-aggregate-window-len : tie.Need-slice-aggregate-window-len
-slice-aggregate-window-len c = search (front-measured, seq2-placed)
+slice-aggregate-two : tie.Need-slice-aggregate-two
+slice-aggregate-two c = search (front-measured, seq2-placed)
 
 window-len-requires : tie.Need-window-len-requires
 window-len-requires c κs = search (front-stands, seq2-placed)
-
-slice-reshare-prefix-registers-of : tie.Need-slice-reshare-prefix-registers-of
-slice-reshare-prefix-registers-of c = search (part-ends, seq2-placed)
-
-slice-aggregate-registers-of : tie.Need-slice-aggregate-registers-of
-slice-aggregate-registers-of c = search (front-measured, seq2-placed)
 
 registers-of-requires : tie.Need-registers-of-requires
 registers-of-requires c κs = search (front-stands, seq2-placed)
@@ -34,7 +28,7 @@ add-r : tie.Need-add-r
 add-r c = search row-register-fits
 
 pairs-texts-requires : tie.Need-pairs-texts-requires
-pairs-texts-requires c κs = (search seq1-placed, search needs, search needs, search (front-stands, seq2-placed), search row-own-small, search row-pairs-small, search row-texts-room)
+pairs-texts-requires c κs = (search seq1-placed, search needs, search needs, search needs, search (front-stands, seq2-placed), search row-own-small, search row-pairs-small, search row-texts-room)
 
 same-length : tie.Need-same-length
 same-length c = search needs
@@ -50,11 +44,9 @@ row-texts-spec =
     tie.close
     (tie.spec
     alternative-requires
-    slice-reshare-prefix-window-len
-    slice-aggregate-window-len
+    slice-reshare-prefix-two
+    slice-aggregate-two
     window-len-requires
-    slice-reshare-prefix-registers-of
-    slice-aggregate-registers-of
     registers-of-requires
     cast-r
     add-r

@@ -1,11 +1,21 @@
 -- `word_count` adds the assignments, the match and the match's own word.
 use borrow.Author.Needs.{needs}
+use Rattle.within.proofs.Rows.{seq1-alone, still-paired}
 use Rattle.within.proofs.SizePass.{words-counted}
 use Rattle.within.proofs.word_count.Statement.{statement}
 use Rattle.within.proofs.word_count.Tie as tie
 
+slice-aggregate-put-windows : tie.Need-slice-aggregate-put-windows
+slice-aggregate-put-windows c = search needs
+
+put-windows-requires : tie.Need-put-windows-requires
+put-windows-requires c κs = (search seq1-alone, search needs)
+
+slice-aggregate-all-size : tie.Need-slice-aggregate-all-size
+slice-aggregate-all-size c = search needs
+
 all-size-requires : tie.Need-all-size-requires
-all-size-requires c κs = search needs
+all-size-requires c κs = (search still-paired, search needs, search needs)
 
 match-size-requires : tie.Need-match-size-requires
 match-size-requires c κs = search needs
@@ -25,4 +35,13 @@ returns c = search words-counted
 pub word-count-spec : {M : Type 1} → statement M
 word-count-spec =
     tie.close
-    (tie.spec all-size-requires match-size-requires add-result add-result-2 same-length returns)
+    (tie.spec
+    slice-aggregate-put-windows
+    put-windows-requires
+    slice-aggregate-all-size
+    all-size-requires
+    match-size-requires
+    add-result
+    add-result-2
+    same-length
+    returns)

@@ -10,17 +10,23 @@ use compare::{interpreter, rules, sva};
 use std::hint::black_box;
 use std::time::{Duration, Instant};
 
-/// How often each row is measured, and for how long at least.
+/// How often each row is measured, and for how long at least: a row by itself, and one of many trees.
 const REPETITIONS: usize = 3;
 const LEAST: Duration = Duration::from_millis(200);
+const BRIEF: Duration = Duration::from_millis(1);
+
+/// How many random trees are timed, of up to so many nodes and words.
+const RANDOM_TREES: usize = 3000;
+const NODES: usize = 40;
+const WORDS: usize = 1 << 20;
 
 /// So many calls, and how long they took.
 type Batch<'a> = &'a mut dyn FnMut(usize) -> Duration;
 
 /// Nanoseconds a call of each, the best of three repetitions, which take turns.
-fn best<const N: usize>(mut batches: [Batch; N]) -> [f64; N] {
+fn best<const N: usize>(least: Duration, mut batches: [Batch; N]) -> [f64; N] {
     let mut best = [f64::MAX; N];
-    let calls = batches.each_mut().map(enough);
+    let calls = batches.each_mut().map(|batch| enough(least, batch));
     for _ in 0..REPETITIONS {
         for (i, batch) in batches.iter_mut().enumerate() {
             best[i] = best[i].min(batch(calls[i]).as_nanos() as f64 / calls[i] as f64);
@@ -30,21 +36,21 @@ fn best<const N: usize>(mut batches: [Batch; N]) -> [f64; N] {
 }
 
 /// How many calls take long enough to be measured.
-fn enough(batch: &mut Batch) -> usize {
+fn enough(least: Duration, batch: &mut Batch) -> usize {
     let mut calls = 1;
     loop {
         let taken = batch(calls);
-        if taken >= LEAST {
+        if taken >= least {
             return calls;
         }
-        calls *= if taken * 20 < LEAST { 10 } else { 2 };
+        calls *= if taken * 20 < least { 10 } else { 2 };
     }
 }
 
-/// A tree lowered here, and by the original.
-fn lowering(name: &str, tree: &[u32]) {
-    let decided = rules::decided(tree, 16 * rules::ENTRIES as usize, usize::MAX);
-    let sizes = decided.answer.expect("an accepted tree");
+/// What lowering a tree takes here and by the original, in nanoseconds, and its listing; none if it is refused or longer.
+fn lowered(tree: &[u32], most: usize, least: Duration) -> Option<([f64; 2], Vec<u32>)> {
+    let decided = rules::decided(tree, 16 * rules::ENTRIES as usize, most);
+    let sizes = decided.answer.ok()?;
     let mut work = vec![0; 16 * decided.most_entries as usize];
     let mut out = vec![0; sizes.words as usize];
     let mut lowered_here = |calls| {
@@ -66,10 +72,35 @@ fn lowering(name: &str, tree: &[u32]) {
         }
         taken
     };
-    let [here, there] = best([&mut lowered_here, &mut lowered_there]);
+    let times = best(least, [&mut lowered_here, &mut lowered_there]);
     assert!(original::lower_unwatched(&sequence).words() == out, "the same words");
+    Some((times, out))
+}
+
+/// A row of one tree.
+fn lowering(name: &str, tree: &[u32]) {
+    let ([here, there], out) = lowered(tree, usize::MAX, LEAST).expect("an accepted tree");
     let Counts { registers, words, .. } = listing::counts(&out);
     println!("| {name} | {registers} | {words} | {here:.0} | {there:.0} | {:.3} |", here / there);
+}
+
+/// Random trees: the mean ratio, and the highest with its row.
+fn random_lowerings() {
+    let mut random = Random(2026);
+    let (mut timed, mut sum, mut highest) = (0, 0.0, (0.0, String::new()));
+    while timed < RANDOM_TREES {
+        let nodes = 1 + random.below(NODES);
+        let tree = random.tree(nodes);
+        let Some(([here, there], out)) = lowered(&tree, WORDS, BRIEF) else { continue };
+        timed += 1;
+        sum += here / there;
+        if here / there > highest.0 {
+            let Counts { registers, words, .. } = listing::counts(&out);
+            highest = (here / there, format!("nodes: {} | {registers} | {words} | {here:.0} | {there:.0}", tree.len() / 5));
+        }
+    }
+    println!("| {timed} random trees, of up to {NODES} nodes: the mean | | | | | {:.3} |", sum / timed as f64);
+    println!("| the highest of them, {} | {:.3} |", highest.1, highest.0);
 }
 
 /// A tick: of the registers now and the atoms, into the registers next, with a stack.
@@ -108,7 +139,7 @@ fn ticking(name: &str, tree: &[u32]) {
             unsafe { interpreter::tick(&words, now, atoms, next, stack) }
         })
     };
-    let [here, once, every] = best([&mut ticked_here, &mut once, &mut every]);
+    let [here, once, every] = best(LEAST, [&mut ticked_here, &mut once, &mut every]);
     println!("| {name} | {registers} | {count} | {here:.1} | {once:.1} | {every:.1} | {:.2} | {:.2} |", here / once, here / every);
 }
 
@@ -136,6 +167,7 @@ fn rows() {
     lowering("`a` under 246 `[*1]`, then eight `##[0:1] b`", &eight(&once(&a, 246)));
     lowering("16 of `a` under 230 `[*1]`, then eight `##[0:1] b`", &eight(&balanced(&vec![once(&a, 230); 16], 0, 0)));
     lowering("eight `##[0:1]` within 200 `##0 c`", &within(&eight(&a), &long));
+    random_lowerings();
     println!("\n| tick | registers | words | here, ns | C checked once, ns | C checked at every tick, ns | here / once | here / every |");
     println!("|---|---|---|---|---|---|---|---|");
     ticking("`a ##1 b`", &delay(&a, &b, 1, 1));

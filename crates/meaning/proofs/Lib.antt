@@ -30,6 +30,7 @@ pub mod Uses
 pub mod Operations
 pub mod Evaluation
 pub mod Emitted
+pub mod UnnamedAtoms
 pub mod Bounds
 pub mod Ticking
 pub mod Demand3

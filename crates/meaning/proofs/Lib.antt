@@ -26,6 +26,7 @@ pub mod Walks
 pub mod Rules
 pub mod Accepted
 pub mod ListingAnswer
+pub mod RefusalNumbers
 pub mod Uses
 pub mod Operations
 pub mod Evaluation

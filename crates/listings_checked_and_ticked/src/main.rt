@@ -1,7 +1,6 @@
 // Runs listings, good and faulty, and writes what the check and the tick answer and what the lent slices hold afterwards;
-// the file `stdout` has what 01 says to each. First 01's trace row: `a ##1 b[->2]` with a at tick 0 and b at 1, 3, 4 matches
-// at 3 only. Then a line for each case: `next` holds 7s and the stack 9s before the tick, so that a refusal shows 7s and 9s,
-// and a tick shows the registers' new values with 7s past them, and a stack of zeros.
+// the file `stdout` has what 01 says to each. A line for each case: `next` holds 7s and the stack 9s before the tick, so that a
+// refusal shows 7s and 9s, and a tick shows the registers' new values with 7s past them, and a stack of zeros.
 //
 // Example: `r0 match seq0: faulty 2, refused 21 2, next 777, stack 99`.
 
@@ -37,8 +36,6 @@ const SEQ0: u32 = 9 * 16777216;
 const SEQ1: u32 = 9 * 16777216 + 1;
 
 const ARM1: u32 = 10 * 16777216 + 1;
-
-const GTO1: u32 = 11 * 16777216 + 1;
 
 const GTO2: u32 = 11 * 16777216 + 2;
 
@@ -95,57 +92,6 @@ fn case(name: &[u8], words: &[u32], cur: &[u8], atoms: &[u8], next: &mut [u8], s
     io::write_all(1, b", stack ");
     say_bytes(stack);
     io::write_all(1, b"\n");
-}
-
-// One tick of `a ##1 b[->2]`: the registers after it.
-fn traced(cur: [u8; 3], a: u8, b: u8) -> [u8; 3] {
-    let words = [
-        A0,
-        ANY,
-        SEQ0,
-        R1,
-        R0,
-        OR,
-        A1,
-        ANY,
-        NOT,
-        AND,
-        GTO1,
-        A1,
-        ANY,
-        R1,
-        R0,
-        OR,
-        AND,
-        A1,
-        ANY,
-        NOT,
-        R2,
-        AND,
-        OR,
-        GTO2,
-        A1,
-        ANY,
-        R2,
-        AND,
-        MATCH,
-    ];
-    let mut next = [0u8; 3];
-    let mut stack = [0u8; 4];
-    let atoms = [a, b];
-    io::write_all(1, b"a ##1 b[->2]");
-    say_ticked(tick::tick(&words, &cur, &atoms, &mut next, &mut stack));
-    io::write_all(1, b"\n");
-    next
-}
-
-// a at tick 0, b at 1, 3 and 4.
-fn trace() {
-    let at_1 = traced([0, 0, 0], 1, 0);
-    let at_2 = traced(at_1, 0, 1);
-    let at_3 = traced(at_2, 0, 0);
-    let at_4 = traced(at_3, 0, 1);
-    traced(at_4, 0, 1);
 }
 
 // Listings as described. A store reads the registers before the tick.
@@ -301,7 +247,7 @@ fn too_short() {
     );
 }
 
-// 23, on the same; and that 21 comes before 22, and 22 before 23.
+// 23, on the same; and that 21 comes before 22 and 23, and 22 before 23.
 fn above_one() {
     let words = [A0, ANY, SEQ0, R0, A1, ANY, AND, MATCH];
     case(
@@ -336,10 +282,17 @@ fn above_one() {
         &mut [],
         &mut [],
     );
+    case(
+        b"a byte 2, and no match",
+        &[A0, A1, AND],
+        &[2],
+        &[2, 2],
+        &mut [7],
+        &mut [9, 9],
+    );
 }
 
 fn main() {
-    trace();
     described();
     any_byte();
     unknown_operations();

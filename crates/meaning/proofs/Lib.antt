@@ -22,6 +22,7 @@ pub mod Nodes
 pub mod Formed
 pub mod Ranges
 pub mod AnUnvisitedOperand
+pub mod OnTopInTheTable
 pub mod Walks
 pub mod Rules
 pub mod Accepted

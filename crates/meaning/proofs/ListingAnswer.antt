@@ -78,7 +78,12 @@ module _ (r w d : ℕ) where
   formed-listed (Misformed number place) t work out first e = absurd (refused-is-not-listed e)
   formed-listed Formed t work out first e = (refl, e)
 
--- No refusal of 1 to 14 fell on a table whose answer is a listing.
+-- 1 to 3 fell on no table whose answer is a listing ..
+pub a-listed-table-is-formed : (t : List ℕ) (work out first r w d : ℕ) → lower t work out first ≡ Listing r w d → table t ≡ Formed
+unfolding lower
+a-listed-table-is-formed t work out first r w d e = formed-listed r w d (table t) t work out first e .0
+
+-- .. and no refusal of 1 to 14.
 pub a-listed-table-passed-all : (t : List ℕ) (work out first r w d : ℕ) → lower t work out first ≡ Listing r w d → PassedAll t work out first r w d
 unfolding lower
 a-listed-table-passed-all t work out first r w d e =

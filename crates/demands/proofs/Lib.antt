@@ -1,7 +1,7 @@
 pub mod MatchesLookNoFurther
 pub mod RunsGoOn
-pub mod TheStandardIsMet
 pub mod EveryListingRuns
+pub mod TheStandardIsMet
 pub mod Premises
 pub mod OneOutcome
 pub mod TreesHaveOneOutcome

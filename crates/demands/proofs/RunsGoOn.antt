@@ -1,10 +1,13 @@
--- How a listing runs on, tick after tick, on whatever is lent: its registers and its answers; and that all who start alike and go on
--- alike have these registers.
-use mathlib.Core.Path.{_≡_, refl, ap, _∙_}
+-- How a listing runs on, tick after tick, on whatever is lent: what it answers and stores; and that a run which stops is the beginning
+-- of one that goes on for good.
+use mathlib.Core.Path.{_≡_, refl}
 use mathlib.Core.List.{List}
 use Prim.Native.Nat.{ℕ, zero, suc, _≤_, _<_}
 use native.Mathlib.Omega.{arith}
-use lib.ListN.{length}
+use borrow.Author.Tests.{ltb-true, lt-ltb}
+use lib.Dec.{ltb}
+use lib.ListN.{length, take}
+use Rattle.words.specs.Choice.{pick, pick-true, pick-case}
 use Rattle.meaning.specs.Tick.{tick, next-after}
 use Rattle.meaning.specs.declared.Ticked.{Ticked}
 
@@ -17,13 +20,20 @@ module _ (listing : List ℕ) (atoms next stack : ℕ → List ℕ) where
   abbrev pub stored-from : List ℕ → ℕ → List ℕ
   stored-from cur n = next-after (answer-from cur n) listing cur (atoms n) (next n)
 
-  -- The registers at each tick, from those at tick 0.
-  abbrev pub registers-at : List ℕ → ℕ → List ℕ
-  registers-at start zero = start
-  registers-at start (suc n) = stored-from (registers-at start n) n
+  -- Up to the last tick what a run had, and then what each tick left in next.
+  module _ (cur : ℕ → List ℕ) (last : ℕ) where
+    abbrev pub gone-on : ℕ → List ℕ
+    gone-on zero = cur zero
+    gone-on (suc n) = pick (ltb n last) (cur (suc n)) (stored-from (gone-on n) n)
 
-  -- Registers that go on so up to some tick are these until then.
-  pub runs-alike : (last : ℕ) (cur : ℕ → List ℕ) → ((n : ℕ) → n < last → cur (suc n) ≡ stored-from (cur n) n)
-      → (n : ℕ) → n ≤ last → cur n ≡ registers-at (cur zero) n
-  runs-alike last cur goes-on zero l = refl
-  runs-alike last cur goes-on (suc n) l = goes-on n l ∙ ap (λ (c : List ℕ). stored-from c n) (runs-alike last cur goes-on n (omega arith))
+    -- It is the same run until then ..
+    pub the-same-until-last : (n : ℕ) → n ≤ last → gone-on n ≡ cur n
+    the-same-until-last zero l = refl
+    the-same-until-last (suc n) l = pick-true _ _ (lt-ltb n last l)
+
+    -- .. and where the registers were what each tick had left, they are for good.
+    pub goes-on-for-good : (registers : ℕ) → ((n : ℕ) → n < last → take registers (cur (suc n)) ≡ take registers (stored-from (cur n) n))
+        → (n : ℕ) → take registers (gone-on (suc n)) ≡ take registers (stored-from (gone-on n) n)
+    goes-on-for-good registers went-on n =
+        pick-case (λ (then : List ℕ). take registers then ≡ take registers (stored-from (gone-on n) n)) (ltb n last)
+        (λ e. let l = ltb-true n last e in rw (the-same-until-last n (omega arith)) (went-on n l)) (λ _. refl)

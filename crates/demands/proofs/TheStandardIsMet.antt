@@ -8,7 +8,7 @@ use mathlib.Core.Bool.{Bool, true, false}
 use mathlib.Core.Path.{_≡_, refl, sym, ap, _∙_}
 use mathlib.Core.Logic.{_↔_, Iff·trans, inl, inr}
 use mathlib.Core.List.{List}
-use Prim.Native.Nat.{ℕ, zero, suc, _≤_, _<_, min}
+use Prim.Native.Nat.{ℕ, suc, _≤_, _<_, min}
 use native.Mathlib.Omega.{arith}
 use lib.ListN.{length, take}
 use Rattle.meaning.specs.Tree.{root}
@@ -28,7 +28,7 @@ use Rattle.lower.specs.Answers.{Lowers}
 use Rattle.words.proofs.Laws.{front-written}
 use Rattle.demands.specs.Shipped.{RunsAsShipped, AMatchEnds, IsABit, MeetsTheStandard}
 use Rattle.demands.proofs.MatchesLookNoFurther.{matches-look-no-further}
-use Rattle.demands.proofs.RunsGoOn.{answer-from, registers-at, runs-alike}
+use Rattle.demands.proofs.RunsGoOn.{answer-from, stored-from, gone-on, the-same-until-last, goes-on-for-good}
 
 -- One call of `lower` that answered with a listing.
 module _ {tree work work′ out out′ : List ℕ} {registers words deepest : ℕ}
@@ -88,6 +88,10 @@ module _ {ticks : ℕ} {tree work work′ out out′ : List ℕ} {registers word
   abbrev words-are : take words out′ ≡ listing
   words-are = the-words-handed-out-are-the-trees (run .lowered)
 
+  -- The registers that the definitions count in them are those of the answer.
+  counted : registers-in listing ≡ registers
+  counted = rw (← words-are) (sym (the-registers-answered-are-counted (run .lowered)))
+
   -- One of the ticks, and the run that is the same up to it, and goes on for good, on what was lent at this tick.
   module _ (last : ℕ) (reached : last < ticks) where
     abbrev atoms-on : ℕ → List ℕ
@@ -100,7 +104,7 @@ module _ {ticks : ℕ} {tree work work′ out out′ : List ℕ} {registers word
     stack-on n = stack (min n last)
 
     abbrev cur-on : ℕ → List ℕ
-    cur-on = registers-at listing atoms-on next-on stack-on (cur zero)
+    cur-on = gone-on listing atoms-on next-on stack-on cur last
 
     -- Up to that tick it is lent the same ..
     lent-alike : (n : ℕ) → n ≤ last → min n last ≡ n
@@ -110,26 +114,27 @@ module _ {ticks : ℕ} {tree work work′ out out′ : List ℕ} {registers word
     answers-alike : (n : ℕ) → n ≤ last → answer n ≡ answer-from listing atoms-on next-on stack-on (cur n) n
     answers-alike n l = run .ticked n (omega arith) .answer ∙ rw (words-are, lent-alike n l) refl
 
-    -- .. and has the same registers.
-    registers-alike : (n : ℕ) → n ≤ last → cur n ≡ cur-on n
-    registers-alike =
-        runs-alike listing atoms-on next-on stack-on last cur (λ n l.
-        run .goes-on n (omega arith) ∙ run .ticked n (omega arith) .next-holds ∙ rw (answers-alike n (omega arith), words-are, lent-alike n (omega arith)) refl)
+    -- .. and stores the same, from which the next tick goes on.
+    registers-alike : (n : ℕ) → n < last → take registers (cur (suc n)) ≡ take registers (stored-from listing atoms-on next-on stack-on (cur n) n)
+    registers-alike n l =
+        rw (run .lent .goes-on n (omega arith))
+        (ap (take registers)
+        (run .ticked n (omega arith) .next-holds ∙ rw (answers-alike n (omega arith), words-are, lent-alike n (omega arith)) refl))
 
     -- It runs as the definitions say.
     running : Running listing atoms-on cur-on next-on (λ n. length (stack-on n))
     running = record {
-      zeroed = rw (← words-are, ← the-registers-answered-are-counted (run .lowered)) (run .zeroed);
-      goes-on = λ n. refl;
-      next-long = λ n. rw (← words-are, ← the-registers-answered-are-counted (run .lowered)) (run .next-long (min n last) (omega arith));
-      stack-long = λ n. rw (← words-are, ← the-deepest-stack-answered-is-counted (run .lowered)) (run .stack-long (min n last) (omega arith));
-      atoms-long = λ n. rw (← words-are) (run .atoms-long (min n last) (omega arith));
-      atoms-bits = λ n. run .atoms-bits (min n last) (omega arith);
+      zeroed = rw counted (run .lent .zeroed);
+      goes-on = rw counted (goes-on-for-good listing atoms-on next-on stack-on cur last registers registers-alike);
+      next-long = λ n. rw counted (run .lent .next-long (min n last) (omega arith));
+      stack-long = λ n. rw (← words-are, ← the-deepest-stack-answered-is-counted (run .lowered)) (run .lent .stack-long (min n last) (omega arith));
+      atoms-long = λ n. rw (← words-are) (run .lent .atoms-long (min n last) (omega arith));
+      atoms-bits = λ n. rw (← words-are) (run .lent .atoms-bits (min n last) (omega arith));
     }
 
     -- At that tick it gives the run's answer, ..
     answered : answer last ≡ answer-from listing atoms-on next-on stack-on (cur-on last) last
-    answered = answers-alike last (omega arith) ∙ rw (registers-alike last (omega arith)) refl
+    answered = answers-alike last (omega arith) ∙ rw (the-same-until-last listing atoms-on next-on stack-on cur last last (omega arith)) refl
 
     -- .. and up to it the same atoms hold.
     traces-alike : (n a : ℕ) → n ≤ last → trace atoms-on n a ≡ trace atoms n a

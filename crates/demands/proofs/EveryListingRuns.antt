@@ -14,8 +14,11 @@ use Rattle.meaning.specs.Lower.{lower, output-after}
 use Rattle.meaning.specs.declared.Lowered.the-variants.{Listing}
 use Rattle.meaning.specs.declared.Ticked.{Ticked}
 use Rattle.meaning.specs.declared.Ticked.the-variants.{Match, Refused}
+use Rattle.sva_c.specs.Boundary.{ticked-number, match-after, ticked-place}
 use Rattle.demands.specs.Shipped.{RunsAsShipped}
+use Rattle.demands.specs.ShippedForC.{RunsForC}
 use Rattle.demands.proofs.RunsGoOn.{answer-from, stored-from}
+use Rattle.demands.proofs.RunsForC.{a-run-is-one-for-C}
 
 -- A tick leaves next as long as it was.
 as-long-as-it-was : (answer : Ticked) (ws cur atoms next : List ℕ) → length (next-after answer ws cur atoms next) ≡ length next
@@ -67,3 +70,9 @@ module _ (tree work out : List ℕ) (registers words deepest : ℕ) (accepted : 
           atoms-bits = atoms-bits;
         };
       }
+
+      -- .. and from C, whatever is held where the match bit goes.
+      pub every-accepted-listing-runs-for-C : (held : ℕ → ℕ)
+          → RunsForC ticks tree work (replicate (length work) 0) out out′ registers words deepest 0 cur atoms next next′ stack stack′
+          held (λ n. ticked-number (answer n)) (λ n. match-after (answer n) (held n)) (λ n. ticked-place (answer n))
+      every-accepted-listing-runs-for-C held = a-run-is-one-for-C every-accepted-listing-runs held

@@ -1,7 +1,9 @@
 pub mod MatchesLookNoFurther
 pub mod RunsGoOn
+pub mod RunsForC
 pub mod EveryListingRuns
 pub mod TheStandardIsMet
+pub mod TheStandardIsMetForC
 pub mod Premises
 pub mod OneOutcome
 pub mod TreesHaveOneOutcome

@@ -1,2 +1,3 @@
 pub mod Shipped
+pub mod ShippedForC
 pub mod OneOutcome

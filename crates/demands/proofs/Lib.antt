@@ -4,6 +4,7 @@ pub mod RunsForC
 pub mod EveryListingRuns
 pub mod TheStandardIsMet
 pub mod TheStandardIsMetForC
+pub mod TheUsersPremise
 pub mod UnnamedAtomsChangeNothing
 pub mod Premises
 pub mod OneOutcome

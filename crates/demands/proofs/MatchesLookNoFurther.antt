@@ -8,34 +8,8 @@ use native.Mathlib.Omega.{arith}
 use lib.Dec.{T}
 use Rattle.meaning.specs.Tree.{Seq, atom, delay, consec, goto, nonconsec, throughout, within, Operand, boolean, other, operand}
 use Rattle.meaning.specs.Match.{Runs, Join, Times, Always, Never, UntilFirst, GotoRuns, NonconsecRuns, Over, Match}
-use Rattle.meaning.proofs.RunLaws.{Forward, times-forward, join-forward}
-
--- No match ends before it begins.
-module _ (σ : ℕ → ℕ → Bool) where
-  -- Goto and nonconsecutive repetition, from the runs up to a first b ..
-  until-first-forward : (b : ℕ) → Forward (UntilFirst σ b)
-  until-first-forward b i j (k, p, e, no-b, h) = omega arith
-
-  goto-forward : (b n : ℕ) → Forward (GotoRuns σ b n)
-  goto-forward b n = times-forward (UntilFirst σ b) (until-first-forward b) n
-
-  nonconsec-forward : (b n : ℕ) → Forward (NonconsecRuns σ b n)
-  nonconsec-forward b n i j (k, x, p, no-b) = omega (arith, goto-forward b n i k x)
-
-  -- .. over an operand that has to be a Boolean, ..
-  over-forward : (o : Operand) (R : ℕ → Runs) → ((b : ℕ) → Forward (R b)) → Forward (Over σ o R)
-  over-forward (boolean b) R f i j x = f b i j x
-  over-forward other R f i j x = absurd x
-
-  -- .. and every tree.
-  match-forward : (s : Seq) → Forward (Match σ s)
-  match-forward (atom n a) i j (e, h) = omega arith
-  match-forward (delay n l r m x) i j (d, p, q, y) = join-forward d (Match σ l) (Match σ r) (match-forward l) (match-forward r) i j y
-  match-forward (consec n s m x) i j (c, p, q, y) = times-forward (Match σ s) (match-forward s) c i j y
-  match-forward (goto n s k) i j x = over-forward (operand s) (λ b. GotoRuns σ b k) (λ b. goto-forward b k) i j x
-  match-forward (nonconsec n s k) i j x = over-forward (operand s) (λ b. NonconsecRuns σ b k) (λ b. nonconsec-forward b k) i j x
-  match-forward (throughout n c s) i j (x, h) = match-forward s i j x
-  match-forward (within n s₁ s₂) i j (i′, j′, x, p, q, y) = match-forward s₂ i j x
+use Rattle.meaning.proofs.RunLaws.{Forward}
+use Rattle.meaning.proofs.MatchForward.{until-first-forward, nothing-over-another, match-forward}
 
 -- Every run of R that ends by tick `end` is one of S.
 abbrev IncludedUntil : ℕ → Runs → Runs → Type 0
@@ -53,7 +27,7 @@ module _ (end : ℕ) where
 
   over-included-until : (σ τ : ℕ → ℕ → Bool) (o : Operand) (R R′ : ℕ → Runs) → ((a : ℕ) → IncludedUntil end (R a) (R′ a)) → IncludedUntil end (Over σ o R) (Over τ o R′)
   over-included-until σ τ (boolean a) R R′ f i j b x = f a i j b x
-  over-included-until σ τ other R R′ f i j b x = absurd x
+  over-included-until σ τ other R R′ f i j b x = absurd (nothing-over-another σ R i j x)
 
 -- Two traces that agree before tick `end`: what matches in one until then matches in the other.
 module _ (σ τ : ℕ → ℕ → Bool) (end : ℕ) (agree : (k a : ℕ) → k < end → σ k a ≡ τ k a) where

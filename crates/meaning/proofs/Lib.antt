@@ -1,9 +1,12 @@
 pub mod AllStarredRows
+pub mod AllMatchRows
 pub mod Values
 pub mod Acceptable
 pub mod Bits
 pub mod On
 pub mod RunLaws
+pub mod MatchForward
+pub mod MatchDecided
 pub mod Since
 pub mod MachineRuns
 pub mod Joining

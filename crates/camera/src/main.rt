@@ -1,12 +1,6 @@
 // A guide camera whose bad pixels are replaced, watched by lowered assertions: the frame is read with the map as made, with
 // rows and columns transposed, and with one entry lost, and each assertion says where it raised its first alarm.
-mod assertions;
-mod atoms;
-mod frame;
-mod maps;
-mod sensor;
-
-use maps::Loaded;
+use sensor::Loaded;
 ghost use Rattle.correction.specs.Map.{Reached};
 
 // Which map it is.
@@ -68,7 +62,7 @@ fn judge(loaded: Loaded, map: &[u32])
     requires { ⌜ Reached (now map) 0 0 ⌝ }
 {
     let mut number = 1;
-    while number <= assertions::COUNT {
+    while number <= frame::ASSERTIONS {
         report(loaded, number, frame::watched(map, number));
         number += 1;
     }
@@ -77,7 +71,7 @@ fn judge(loaded: Loaded, map: &[u32])
 // A map, loaded and looked at before it is used.
 fn inspect(loaded: Loaded) {
     let mut room = [0u32; 512];
-    let count = maps::load(loaded, &mut room);
+    let count = sensor::load(loaded, &mut room);
     let map = &room[..count];
     say_map(loaded);
     io::print_decimal(1, count as u64);

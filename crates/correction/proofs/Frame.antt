@@ -1,7 +1,7 @@
 -- The meaning of the whole: of a picture that comes in tick by tick, the pixel that leaves two ticks after it came in is the
 -- corrected one. The rows hold the last pixels as they came in and those before as they left.
 use mathlib.Core.Path.{_≡_, refl, sym, ap, ap₂, _∙_}
-use mathlib.Core.Bool.{true, false}
+use mathlib.Core.Bool.{Bool, true, false}
 use mathlib.Core.List.{List}
 use Prim.Native.Nat.{ℕ, zero, suc, _+_, _-_, _/_, _≤_, _<_}
 use native.Mathlib.Omega.{arith}
@@ -25,7 +25,7 @@ apart s t h k e = omega arith
 record Holding (map : List ℕ) (picture : ℕ → ℕ → ℕ) (rows : List ℕ) (tick : ℕ) : Type 0 where
   long : length rows ≡ 1504
   waiting : (s : ℕ) → s < tick → tick ≤ s + 2 → pixel-at rows s ≡ picture (row-of s) (column-of s)
-  gone : (s : ℕ) → s + 2 < tick → tick ≤ s + 1504 → pixel-at rows s ≡ corrected map picture (row-of s) (column-of s)
+  gone : (s : ℕ) → s + 2 < tick → tick ≤ s + 1504 → pixel-at rows s ≡ corrected (names map) picture (row-of s) (column-of s)
 
 not-zero : (n : ℕ) → eqb (suc n) 0 ≡ false
 not-zero n = ne-eqb (suc n) 0 (λ e. omega arith)
@@ -34,18 +34,18 @@ suc-before : (n : ℕ) → suc n - 1 ≡ n
 suc-before n = omega arith
 
 -- A corrected pixel, in one equation.
-one-equation : (map : List ℕ) (picture : ℕ → ℕ → ℕ) (row column : ℕ) →
-    corrected map picture row column
-    ≡ pick (names map row column)
-    (pick (eqb column 0) (pick (eqb row 0) 0 (corrected map picture (row - 1) column))
-    (pick (eqb row 0) (corrected map picture row (column - 1))
-    ((corrected map picture row (column - 1) + corrected map picture (row - 1) column) / 2)))
+pub one-equation : (named : ℕ → ℕ → Bool) (picture : ℕ → ℕ → ℕ) (row column : ℕ) →
+    corrected named picture row column
+    ≡ pick (named row column)
+    (pick (eqb column 0) (pick (eqb row 0) 0 (corrected named picture (row - 1) column))
+    (pick (eqb row 0) (corrected named picture row (column - 1))
+    ((corrected named picture row (column - 1) + corrected named picture (row - 1) column) / 2)))
     (picture row column)
 unfolding corrected pick
-one-equation map picture zero zero = refl
-one-equation map picture zero (suc column) = rw (not-zero column, suc-before column)
-one-equation map picture (suc row) zero = rw (not-zero row, suc-before row)
-one-equation map picture (suc row) (suc column) = rw (not-zero column, not-zero row, suc-before row, suc-before column)
+one-equation named picture zero zero = refl
+one-equation named picture zero (suc column) = rw (not-zero column, suc-before column)
+one-equation named picture (suc row) zero = rw (not-zero row, suc-before row)
+one-equation named picture (suc row) (suc column) = rw (not-zero column, not-zero row, suc-before row, suc-before column)
 
 module _ {map : List ℕ} {picture : ℕ → ℕ → ℕ} {rows : List ℕ} {tick : ℕ} (H : Holding map picture rows tick) where
   entered : List ℕ
@@ -58,23 +58,23 @@ module _ {map : List ℕ} {picture : ℕ → ℕ → ℕ} {rows : List ℕ} {tic
 
   -- What replaces a named pixel is the corrected one.
   replaced : (s : ℕ) → tick ≡ s + 2 → names map (row-of s) (column-of s) ≡ true
-      → replacement-in entered s ≡ corrected map picture (row-of s) (column-of s)
+      → replacement-in entered s ≡ corrected (names map) picture (row-of s) (column-of s)
   unfolding replacement-by
   replaced s e n =
       let row = row-of s in
       let column = column-of s in
-      let left : (column ≡ 0 → ⊥) → pixel-at entered (s - 1) ≡ corrected map picture row (column - 1) = λ c.
+      let left : (column ≡ 0 → ⊥) → pixel-at entered (s - 1) ≡ corrected (names map) picture row (column - 1) = λ c.
       let r : row-of (s - 1) ≡ row = omega arith in
       let d : column-of (s - 1) ≡ column - 1 = omega arith in
-      still (s - 1) (omega arith) (omega arith) ∙ H .gone (s - 1) (omega arith) (omega arith) ∙ ap₂ (corrected map picture) r d in
-      let above : (row ≡ 0 → ⊥) → pixel-at entered (s - 752) ≡ corrected map picture (row - 1) column = λ c.
+      still (s - 1) (omega arith) (omega arith) ∙ H .gone (s - 1) (omega arith) (omega arith) ∙ ap₂ (corrected (names map) picture) r d in
+      let above : (row ≡ 0 → ⊥) → pixel-at entered (s - 752) ≡ corrected (names map) picture (row - 1) column = λ c.
       let r : row-of (s - 752) ≡ row - 1 = omega arith in
       let d : column-of (s - 752) ≡ column = omega arith in
-      still (s - 752) (omega arith) (omega arith) ∙ H .gone (s - 752) (omega arith) (omega arith) ∙ ap₂ (corrected map picture) r d in
+      still (s - 752) (omega arith) (omega arith) ∙ H .gone (s - 752) (omega arith) (omega arith) ∙ ap₂ (corrected (names map) picture) r d in
       pick-cong (eqb column 0) (λ _. pick-cong (eqb row 0) (λ _. refl) (λ f. above (eqb-false row 0 f)))
       (λ d. pick-cong (eqb row 0) (λ _. left (eqb-false column 0 d))
       (λ f. ap₂ (λ (x y : ℕ). (x + y) / 2) (left (eqb-false column 0 d)) (above (eqb-false row 0 f))))
-      ∙ sym (one-equation map picture row column ∙ pick-true _ _ n)
+      ∙ sym (one-equation (names map) picture row column ∙ pick-true _ _ n)
 
   -- The pixel that leaves is the one of two ticks before, as it is to leave.
   leaving : (s : ℕ) → tick ≡ s + 2 → leaving-of map entered s ≡ to-leave map picture (row-of s) (column-of s)
@@ -88,13 +88,13 @@ module _ {map : List ℕ} {picture : ℕ → ℕ → ℕ} {rows : List ℕ} {tic
   came-in = getD-set-same rows (place-of tick) _ 0 (omega (arith, H .long))
 
   -- The pixel that leaves is kept corrected ..
-  kept-corrected : (s : ℕ) → tick ≡ s + 2 → pixel-at (rows-after map entered s) s ≡ corrected map picture (row-of s) (column-of s)
+  kept-corrected : (s : ℕ) → tick ≡ s + 2 → pixel-at (rows-after map entered s) s ≡ corrected (names map) picture (row-of s) (column-of s)
   unfolding rows-after entered
   kept-corrected s e =
-      pick-case (λ (l : List ℕ). pixel-at l s ≡ corrected map picture (row-of s) (column-of s)) (names map (row-of s) (column-of s))
+      pick-case (λ (l : List ℕ). pixel-at l s ≡ corrected (names map) picture (row-of s) (column-of s)) (names map (row-of s) (column-of s))
       (λ n. getD-set-same entered (place-of s) _ 0 (simp length-set (omega (arith, H .long))) ∙ replaced s e n)
       (λ n. still s (omega arith) (omega arith) ∙ H .waiting s (omega arith) (omega arith)
-      ∙ sym (one-equation map picture (row-of s) (column-of s) ∙ pick-false _ _ n))
+      ∙ sym (one-equation (names map) picture (row-of s) (column-of s) ∙ pick-false _ _ n))
 
   -- .. and no other changes.
   others-kept : (s u : ℕ) → (place-of s ≡ place-of u → ⊥) → pixel-at (rows-after map entered u) s ≡ pixel-at entered s
@@ -152,6 +152,10 @@ module _ {map : List ℕ} {picture : ℕ → ℕ → ℕ} {rows : List ℕ} {tic
 held : {map : List ℕ} {picture : ℕ → ℕ → ℕ} {tick : ℕ} {rows : List ℕ} → Ran map picture tick rows → Holding map picture rows tick
 held (begun l) = record { long = l; waiting = λ s i j. absurd (omega arith); gone = λ s i j. absurd (omega arith) }
 held (ticked R S) = next-tick (held R) S
+
+-- The rows are two at every tick.
+pub rows-stay-two : {map : List ℕ} {picture : ℕ → ℕ → ℕ} {tick : ℕ} {rows : List ℕ} → Ran map picture tick rows → length rows ≡ 1504
+rows-stay-two R = held R .long
 
 -- Whatever stood in the rows before the frame: from the third tick on, what leaves is the pixel that came in two ticks
 -- before, as the map has it leave.

@@ -127,7 +127,7 @@ fn wide(x: u8) -> u32
 }
 
 // The mean of two pixels, rounded down.
-fn mean(x: u8, y: u8) -> u8
+pub fn mean(x: u8, y: u8) -> u8
     ensures { λ r. ⌜ r ≡ (x + y) / 2 ⌝ }
 {
     ((wide(x) + wide(y)) / 2) as u8

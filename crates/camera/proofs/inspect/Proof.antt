@@ -16,7 +16,7 @@ array-share-prefix-room : tie.Need-array-share-prefix-room
 array-share-prefix-room c = search needs
 
 slice-aggregate-map : tie.Need-slice-aggregate-map
-slice-aggregate-map c = let w = c .before .before .load in sym (length-take-le (w .result) (w .last .1 .0) (w .ensures))
+slice-aggregate-map c = let w = c .before .before .load in sym (length-take-le (w .result) (w .last .1 .0) (w .ensures .1))
 
 say-map-requires : tie.Need-say-map-requires
 say-map-requires c κs = search needs

@@ -1,0 +1,4 @@
+pub mod Atoms
+pub mod Assertions
+pub mod Advanced
+pub mod Watched

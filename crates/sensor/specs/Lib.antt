@@ -1,0 +1,2 @@
+pub mod Sensor
+pub mod Maps

@@ -24,7 +24,7 @@ use Rattle.expand.proofs.flag_of as flag-of
 use Rattle.expand.proofs.put_outline as put-outline
 use Rattle.expand.proofs.delay_parts as delay-parts
 use Rattle.expand.proofs.copies_block as copies-block
-use Rattle.expand.proofs.copy_digits as copy-digits
+use Rattle.expand.proofs.copy_number as copy-number
 use Rattle.expand.proofs.alternative as alternative
 use Rattle.guards.proofs.guard_words as guard-words
 use Rattle.demands.specs.OneOutcome.{OneOutcome}
@@ -88,8 +88,8 @@ module _ {M : Type 1} (𝓤 : URA M) (H : Heap 𝓤) (A : Atoms 𝓤) (mem : Mem
   pub expand-copies-block-has-one-outcome : OneOutcome 𝓤 copies-block.ended (copies-block.clauses 𝓤 H A mem run)
   expand-copies-block-has-one-outcome κs a g o o′ = by-an-equation 𝓤
 
-  pub expand-copy-digits-has-one-outcome : OneOutcome 𝓤 copy-digits.ended (copy-digits.clauses 𝓤 H A mem run)
-  expand-copy-digits-has-one-outcome κs a g o o′ = by-an-equation 𝓤
+  pub expand-copy-number-has-one-outcome : OneOutcome 𝓤 copy-number.ended (copy-number.clauses 𝓤 H A mem run)
+  expand-copy-number-has-one-outcome κs a g o o′ = by-an-equation 𝓤
 
   pub expand-alternative-has-one-outcome : OneOutcome 𝓤 alternative.ended (alternative.clauses 𝓤 H A mem run)
   expand-alternative-has-one-outcome κs a g o o′ = by-writing 𝓤 (λ work. (tt, (tt, (tt, (tt, (tt, (work, (tt, tt))))))))

@@ -170,17 +170,18 @@ nth-copies base k i p h =
     ∙ nth-lefts (Fixed 1) (copies base k) base (i / length base) (i % length base) (copies-index base k i p h) (mod-lt i p)
 
 -- Number i of the blocks of k + 1, k + 2 .. k + 1 + more copies is a number of the block that `block-of` finds.
-pub record InBlock (base : List SeqAlt) (y : SeqAlt) (highest : ℕ) (b : Block) : Type 0 where
+pub record InBlock (base : List SeqAlt) (y : SeqAlt) (highest all : ℕ) (b : Block) : Type 0 where
   pub same : y ≡ nth (copies base (b .later)) (b .index)
   pub index : b .index < length (copies base (b .later))
   pub few : b .later ≤ highest
+  pub part : length (copies base (b .later)) ≤ all
 
 pub nth-block : (base : List SeqAlt) (k more i : ℕ) → i < length (copies-from base k (suc more))
-    → InBlock base (nth (copies-from base k (suc more)) i) (k + more) (block-of (length base) k more i)
+    → InBlock base (nth (copies-from base k (suc more)) i) (k + more) (length (copies-from base k (suc more))) (block-of (length base) k more i)
 unfolding block-of pick
 nth-block base k zero i h =
     let e : length (copies base k ++ []) ≡ length (copies base k) + 0 = length-append (copies base k) [] in
-    record { same = nth-front (copies base k) [] i (omega arith); index = omega arith; few = omega arith }
+    record { same = nth-front (copies base k) [] i (omega arith); index = omega arith; few = omega arith; part = omega arith }
 nth-block base k (suc more) i h = go (ltb i c) refl (λ p. nth-block base (suc k) more (i - c) p)
   where
     c : ℕ
@@ -192,11 +193,11 @@ nth-block base k (suc more) i h = go (ltb i c) refl (λ p. nth-block base (suc k
     next : Block
     next = block-of (length base) (suc k) more (i - c)
 
-    go : (t : Bool) → ltb i c ≡ t → (i - c < length rest → InBlock base (nth rest (i - c)) (suc k + more) next)
-        → InBlock base (nth (copies base k ++ rest) i) (k + suc more) (pick t (record { later = k; index = i }) next)
+    go : (t : Bool) → ltb i c ≡ t → (i - c < length rest → InBlock base (nth rest (i - c)) (suc k + more) (length rest) next)
+        → InBlock base (nth (copies base k ++ rest) i) (k + suc more) (length (copies base k ++ rest)) (pick t (record { later = k; index = i }) next)
     go true e ih =
         let q : i < length (copies base k) = omega (arith, ltb-true i c e, length-copies base k) in
-        record { same = nth-front (copies base k) rest i q; index = q; few = omega arith }
+        record { same = nth-front (copies base k) rest i q; index = q; few = omega arith; part = omega (arith, length-append (copies base k) rest) }
     go false e ih =
         let q : c ≤ i = ltb-false i c e in
         let w : i ≡ length (copies base k) + (i - c) = omega (arith, length-copies base k) in
@@ -205,6 +206,7 @@ nth-block base k (suc more) i h = go (ltb i c) refl (λ p. nth-block base (suc k
           same = ap (nth (copies base k ++ rest)) w ∙ nth-back (copies base k) rest (i - c) ∙ there .same;
           index = there .index;
           few = omega (arith, there .few);
+          part = omega (arith, there .part, length-append (copies base k) rest);
         }
 
 -- ---- repetitions

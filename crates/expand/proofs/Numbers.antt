@@ -3,7 +3,7 @@
 use mathlib.Core.Path.{_≡_, refl, sym, ap, _∙_, subst}
 use mathlib.Core.Bool.{Bool, true, false}
 use mathlib.Core.List.{List}
-use Prim.Native.Nat.{ℕ, suc, _+_, _*_, _-_, _<_, _≤_, _/_, _%_}
+use Prim.Native.Nat.{ℕ, zero, suc, _+_, _*_, _-_, _<_, _≤_, _/_, _%_}
 use native.Mathlib.Omega.{arith}
 use native.Mathlib.Nat.{mod-lt}
 use lib.Dec.{eqb}
@@ -20,10 +20,10 @@ use Rattle.meaning.proofs.Counting.{length-hops}
 use Rattle.words.proofs.Taken.{both-hold}
 use Rattle.expand.specs.declared.Parts.{Parts}
 use Rattle.expand.specs.declared.Block.{Block}
-use Rattle.expand.specs.declared.CopyDigits.{CopyDigits}
-use Rattle.expand.specs.ByNumber.{alternatives-of, copies-of, nth, hops-between, hop-at, parts-of, copies-from-count, block-of, empties, repeats, is-copies, digits-of, Expandable, Numbered, NumberedCopies}
+use Rattle.expand.specs.ByNumber.{alternatives-of, copies-of, nth, hops-between, hop-at, parts-of, copies-from-count, block-of, empties, repeats, is-copies, copies-count, copy-number, Expandable, Numbered, NumberedCopies}
 use Rattle.expand.specs.Outline.{count-in, bare-in, delay-parts, copies-block, DelayCounted, CopiesCounted, Known}
-use Rattle.expand.proofs.Index.{nth-delay, nth-fixed-from, nth-guarded, digits-below, Digits, nth-copies, copies-index, InBlock, nth-block, length-copies-from, finite-blocks, nth-past-empty}
+use Rattle.expand.proofs.Arithmetic.{copies-monotone}
+use Rattle.expand.proofs.Index.{nth-delay, nth-fixed-from, nth-guarded, digits-below, Digits, InBlock, nth-block, length-copies, length-copies-from, finite-blocks, nth-past-empty}
 use Rattle.expand.proofs.ByKind.{Repetition, repetition, some-alternatives, few-alternatives, well-formed, left-expandable, right-expandable, delay-alternatives, guarded-expandable, throughout-alternatives, copied-expandable, few-copies, copies-in-order, repeated-alternatives}
 use Rattle.expand.proofs.Counted.{length-hops-between, delay-count, throughout-count, copied-some, copied-few, first-few, repeated-count}
 use Rattle.expand.proofs.Outlines.{count-known, inside-outline, left-known, right-known, guarded-known, copied-known, bare-found}
@@ -85,11 +85,11 @@ module _ {t o : List ℕ} {n i : ℕ} {v : Node} (N : Numbered t n i) (K : Known
       hop-small = rw (left-counted, right-counted) (hop-fits (v .min) (v .max) _ (well-formed E w .delay-min k) z (bounds .hop));
     }
 
-  -- The measure falls: 1024 for each node, which is more than the copies that can be left of one.
-  pub left-below : {u : ℕ} → n * 1024 ≡ u → v .kind ≡ 2 → v .p * 1024 + 1 < u
+  -- The measure falls: 3 for each node, one for each of the functions that call each other.
+  pub left-below : {u : ℕ} → n * 3 ≡ u → v .kind ≡ 2 → v .p * 3 + 1 < u
   left-below e k = omega (arith, well-formed E w .delay-left k)
 
-  pub right-below : {u : ℕ} → n * 1024 ≡ u → v .kind ≡ 2 → v .q * 1024 + 1 < u
+  pub right-below : {u : ℕ} → n * 3 ≡ u → v .kind ≡ 2 → v .q * 3 + 1 < u
   right-below e k = omega (arith, well-formed E w .delay-right k)
 
   -- Both operands' alternatives are numbered, and the delay's joins them.
@@ -125,7 +125,7 @@ module _ {t o : List ℕ} {n i : ℕ} {v : Node} (N : Numbered t n i) (K : Known
 
   -- ---- throughout: the operand's alternative of the same number, with one guard more
 
-  pub guarded-below : {u : ℕ} → n * 1024 ≡ u → v .kind ≡ 6 → v .q * 1024 + 1 < u
+  pub guarded-below : {u : ℕ} → n * 3 ≡ u → v .kind ≡ 6 → v .q * 3 + 1 < u
   guarded-below e k = omega (arith, well-formed E w .throughout-under k)
 
   pub guarded-numbered : v .kind ≡ 6 → Numbered t (v .q) i
@@ -200,83 +200,62 @@ module _ {t o : List ℕ} {n i : ℕ} {v : Node} (N : Numbered t n i) (K : Known
         ∙ nth-past-empty (v .min) _ i (R .past)
         ∙ ap (λ (z : ℕ). nth (copies-from base (v .min - 1) z) j) blocks
 
-    found : InBlock base (nth (alternatives-of t n) i) 256 b
+    found : InBlock base (nth (alternatives-of t n) i) 256 256 b
     unfolding copies-block
     found =
         let l : j < copies-from-count (length base) (v .min - 1) (v .max - (v .min - 1)) =
         omega (arith, N .index, repeated-count E′ w Q refl, R .past) in
         let there = nth-block base (v .min - 1) more j (rw (length-copies-from base (v .min - 1) (suc more), ← blocks) l) in
         let few : block-of (length base) (v .min - 1) more j .later ≤ 256 = omega (arith, there .few, few-copies E′ w Q, copies-in-order E′ w Q, Q .live) in
-        rw (g, base-counted) (record { same = in-blocks ∙ there .same; index = there .index; few = few })
+        let all : length (copies-from base (v .min - 1) (suc more)) ≤ 256 =
+        rw (length-copies-from base (v .min - 1) (suc more), ← blocks) (omega (arith, few-alternatives E′, repeated-count E′ w Q refl)) in
+        rw (g, base-counted) (record { same = in-blocks ∙ there .same; index = there .index; few = few; part = omega (arith, there .part, all) })
 
-    pub block-below : {u : ℕ} → n * 1024 ≡ u → v .p * 1024 + (b .later + 2) < u
-    block-below e = omega (arith, well-formed E′ w .consec-under (Q .kind), found .few)
+    pub block-below : {u : ℕ} → n * 3 ≡ u → v .p * 3 + 2 < u
+    block-below e = omega (arith, well-formed E′ w .consec-under (Q .kind))
 
     pub block-numbered : NumberedCopies t (v .p) (b .later) (b .index)
     unfolding copies-of
-    block-numbered = record { node = copied-expandable E′ w Q; few = found .few; index = found .index }
+    block-numbered = record { node = copied-expandable E′ w Q; few = found .few; few-numbers = found .part; index = found .index }
 
     pub nth-of-block : nth (alternatives-of t n) i ≡ nth (copies-of (alternatives-of t (v .p)) (b .later)) (b .index)
     unfolding copies-of
     nth-of-block = found .same
 
--- ---- k + 1 copies: one, or the earlier ones and the last
+-- ---- k + 1 copies, of which one is looked at that so many others follow
+
+-- Its number is one of the operand's.
+copy-number-below : (a i later : ℕ) → 0 < a → copy-number a i later < a
+unfolding copy-number
+copy-number-below a i zero h = mod-lt i h
+copy-number-below a i (suc later) h = copy-number-below a (i / a) later h
 
 module _ {t o : List ℕ} {n k i : ℕ} (C : NumberedCopies t n k i) (K : Known t o n) where
-  pub only-below : {u : ℕ} → n * 1024 + (k + 2) ≡ u → n * 1024 + 1 < u
-  only-below e = omega arith
-
-  pub only-numbered : k ≡ 0 → Numbered t n i
-  unfolding copies-of
-  only-numbered e = record { node = C .node; index = rw e at (C .index) }
-
-  pub nth-of-only : k ≡ 0 → nth (copies-of (alternatives-of t n) k) i ≡ nth (alternatives-of t n) i
-  unfolding copies-of
-  nth-of-only e = rw e refl
-
-  some : 0 < length (alternatives-of t n)
-  some = some-alternatives (C .node)
+  pub copy-below : {u : ℕ} → n * 3 + 2 ≡ u → n * 3 + 1 < u
+  copy-below e = omega arith
 
   pub copy-inside : n < length o
   copy-inside = inside-outline (C .node) K
 
   pub copy-some : 0 < count-in o n
-  copy-some = rw (count-known (C .node) K) some
+  copy-some = rw (count-known (C .node) K) (some-alternatives (C .node))
 
-  -- `repeated`, which has the two numbers under the name s.
-  module _ {s : CopyDigits} (z : k ≡ 0 → ⊥) (d : s ≡ digits-of (count-in o n) i) where
-    e : s ≡ digits-of (length (alternatives-of t n)) i
-    e = d ∙ rw (count-known (C .node) K) refl
+  -- The loops have it as the next of those that are left.
+  pub copy-few : {left : ℕ} → left ≤ k + 1 → 0 < left → copies-count (count-in o n) (left - 1) ≤ 256
+  unfolding copies-of
+  copy-few {left} h m =
+      let a = length (alternatives-of t n) in
+      rw (count-known (C .node) K)
+      (omega (arith, copies-monotone a (left - 1) k (some-alternatives (C .node)) (omega arith), length-copies (alternatives-of t n) k, C .few-numbers))
 
-    one-more : k ≡ suc (k - 1)
-    one-more = omega arith
+  pub copy-numbered : (later : ℕ) {d : ℕ} → d ≡ copy-number (count-in o n) i later → Numbered t n d
+  copy-numbered later e = record {
+    node = C .node;
+    index = rw (e, count-known (C .node) K) (copy-number-below (length (alternatives-of t n)) i later (some-alternatives (C .node)));
+  }
 
-    pub earlier-below : {u : ℕ} → n * 1024 + (k + 2) ≡ u → n * 1024 + (k - 1 + 2) < u
-    earlier-below x = omega arith
-
-    numbered : i < length (copies (alternatives-of t n) (suc (k - 1)))
-    unfolding copies-of
-    numbered = subst (λ (m : ℕ). i < length (copies (alternatives-of t n) m)) one-more (C .index)
-
-    pub earlier-numbered : NumberedCopies t n (k - 1) (s .earlier)
-    unfolding copies-of digits-of
-    earlier-numbered = record {
-      node = C .node;
-      few = omega (arith, C .few);
-      index = rw e (copies-index (alternatives-of t n) (k - 1) i some numbered);
-    }
-
-    pub last-numbered : Numbered t n (s .last)
-    unfolding digits-of
-    last-numbered = record { node = C .node; index = rw e (mod-lt i some) }
-
-    pub nth-of-copies : nth (copies-of (alternatives-of t n) k) i
-        ≡ joined (Fixed 1) (nth (copies-of (alternatives-of t n) (k - 1)) (s .earlier)) (nth (alternatives-of t n) (s .last))
-    unfolding copies-of digits-of
-    nth-of-copies =
-        ap (λ (m : ℕ). nth (copies (alternatives-of t n) m) i) one-more
-        ∙ nth-copies (alternatives-of t n) (k - 1) i some numbered
-        ∙ rw e refl
+  pub copy-counted : (later : ℕ) {d : ℕ} → d ≡ copy-number (count-in o n) i later → d ≡ copy-number (length (alternatives-of t n)) i later
+  copy-counted later e = e ∙ rw (count-known (C .node) K) refl
 
 -- The node's own word can be read.
 pub node-inside : {t o : List ℕ} {n i : ℕ} → Numbered t n i → Known t o n → n < length o
@@ -285,7 +264,7 @@ node-inside N K = inside-outline (N .node) K
 -- ---- [*1]: the node that is left without it, which `alternative` has under the name m
 
 module _ {t o : List ℕ} {n i m : ℕ} (N : Numbered t n i) (K : Known t o n) (e : m ≡ bare-in o n) where
-  pub bare-below : {u : ℕ} → n * 1024 + 1 ≡ u → m * 1024 < u
+  pub bare-below : {u : ℕ} → n * 3 + 1 ≡ u → m * 3 < u
   bare-below x = omega (arith, bare-found (N .node) K e .lower)
 
   pub bare-numbered : Numbered t m i

@@ -4,7 +4,7 @@ use mathlib.Core.Path.{_≡_, refl, sym, ap, _∙_, subst}
 use mathlib.Core.List.{List, append-nil}
 use Prim.Native.Nat.{ℕ, zero, suc, _+_, _-_, _<_, _≤_, _/_, _%_}
 use native.Mathlib.Omega.{arith}
-use native.Mathlib.Nat.{div-eq-of-lt, mod-eq-of-lt}
+use native.Mathlib.Nat.{div-eq-of-lt, mod-eq-of-lt, div-div-eq-div-mul, mul-comm}
 use native.Mathlib.Decide.{ℕ-discrete}
 use lib.ListN.{length, getD}
 use borrow.Author.Tests.{ne-eqb}
@@ -16,8 +16,9 @@ use Rattle.meaning.proofs.Nodes.{number-of, at-atom}
 use Rattle.meaning.proofs.Ranges.{by-kind}
 use Rattle.expand.specs.declared.Parts.{Parts}
 use Rattle.expand.specs.declared.Block.{Block}
-use Rattle.expand.specs.ByNumber.{alternatives-of, hop-at, parts-of, copies-count, block-of, empties, digits-of, Expandable}
+use Rattle.expand.specs.ByNumber.{alternatives-of, hop-at, parts-of, copies-count, block-of, empties, copy-number, Expandable}
 use Rattle.expand.specs.Outline.{is-once, bare, guard-flag, outline-word, count-in, bare-in, flag-in, delay-parts, copies-block, DelayCounted, CopiesCounted, Noted, Outlined, Known}
+use Rattle.expand.proofs.Arithmetic.{copies-monotone}
 use Rattle.expand.proofs.ByKind.{Repetition, few-alternatives, well-formed, is-delay, is-throughout, is-finite, is-unbounded, is-goto, is-nonconsec, no-within, copied-expandable, repeated-alternatives}
 
 -- A tree's own word is among its words.
@@ -136,7 +137,7 @@ module _ {t o : List ℕ} where
   pub bare-found : {n m : ℕ} → Expandable t n → Known t o n → m ≡ bare-in o n → Bared t o n m
   bare-found {n} E K e = rw (e, bare-known E K) (bared (suc n) n (omega arith) E K)
 
--- ---- what the counts in the outline say of a number: `delay_parts`, `copies_block` and `copy_digits`, which have them as a and b
+-- ---- what the counts in the outline say of a number: `delay_parts`, `copies_block` and `copy_number`, which have them as a and b
 
 module _ (o : List ℕ) (v : Node) (i : ℕ) {a b : ℕ} (p : a ≡ count-in o (v .p)) (q : b ≡ count-in o (v .q)) where
   pub hop-found-small : DelayCounted o v i → v .min + i / b / a < 4294967296
@@ -158,9 +159,10 @@ pub zero-parts : {o : List ℕ} {v : Node} {i : ℕ} {h : SeqHop} → DelayCount
 unfolding delay-parts parts-of
 zero-parts D e p = rw (p, e, zero-divided (D .right-some), zero-divided (D .left-some), zero-left (D .left-some), zero-left (D .right-some)) refl
 
-pub zero-digits : {a i : ℕ} → 0 < a → i ≡ 0 → record { earlier = 0; last = 0 } ≡ digits-of a i
-unfolding digits-of
-zero-digits h e = rw (e, zero-divided h, zero-left h) refl
+pub zero-copy-number : {a i : ℕ} (later : ℕ) → 0 < a → i ≡ 0 → 0 ≡ copy-number a i later
+unfolding copy-number
+zero-copy-number zero h e = rw (e, zero-left h) refl
+zero-copy-number {a = a} (suc later) h e = rw (e, zero-divided h) (zero-copy-number {a = a} {i = 0} later h refl)
 
 module _ (o : List ℕ) (v : Node) (i : ℕ) {a : ℕ} (p : a ≡ count-in o (v .p)) where
   pub first-copies-found-few : CopiesCounted o v i → copies-count a (v .min - 1) ≤ 256
@@ -170,6 +172,29 @@ module _ (o : List ℕ) (v : Node) (i : ℕ) {a : ℕ} (p : a ≡ count-in o (v 
   unfolding copies-block
   block-found c = c ∙ rw p refl
 
-pub digits-found : (o : List ℕ) (n i : ℕ) {a : ℕ} → a ≡ count-in o n → record { earlier = i / a; last = i % a } ≡ digits-of (count-in o n) i
-unfolding digits-of
-digits-found o n i p = rw p refl
+-- A copy that others follow: they are divided away at one stroke.
+copy-weight : (a i later : ℕ) → copy-number a i (suc later) ≡ i / copies-count a later % a
+unfolding copy-number copies-count
+copy-weight a i zero = refl
+copy-weight a i (suc later) =
+    copy-weight a (i / a) later
+    ∙ ap (λ (z : ℕ). z % a) (div-div-eq-div-mul i a (copies-count a later) ∙ ap (λ (z : ℕ). i / z) (mul-comm a (copies-count a later)))
+
+module _ (o : List ℕ) (n i : ℕ) {a later : ℕ} (p : a ≡ count-in o n) where
+  pub last-copy-found : later ≡ 0 → i % a ≡ copy-number (count-in o n) i later
+  unfolding copy-number
+  last-copy-found e = rw (e, p) refl
+
+  module _ (m : later ≡ 0 → ⊥) where
+    one-more : later ≡ suc (later - 1)
+    one-more = omega arith
+
+    pub earlier-copy-found : {w : ℕ} → w ≡ copies-count a (later - 1) → i / w % a ≡ copy-number (count-in o n) i later
+    earlier-copy-found e = rw (e, p) (sym (ap (copy-number (count-in o n) i) one-more ∙ copy-weight (count-in o n) i (later - 1)))
+
+    pub weight-few : 0 < count-in o n → copies-count (count-in o n) later ≤ 256 → copies-count a (later - 1) ≤ 256
+    weight-few h q = rw p (omega (arith, copies-monotone (count-in o n) (later - 1) later h (omega arith)))
+
+    pub weight-some : {w : ℕ} → 0 < count-in o n → w ≡ copies-count a (later - 1) → 0 < w
+    unfolding copies-count
+    weight-some h e = rw (e, p) (omega (arith, copies-monotone (count-in o n) 0 (later - 1) h (omega arith)))

@@ -1,13 +1,15 @@
 -- The words of an alternative's steps, as `alternative` and `repeated` put them: the words of its parts one after the other,
--- of which the second takes the hop in between.
+-- each reached by the hop in between.
 use mathlib.Core.Path.{_≡_, refl, sym, ap, _∙_}
 use mathlib.Core.Bool.{Bool, false}
 use mathlib.Core.List.{List, [], _∷_, _++_, append-assoc, append-nil}
-use Prim.Native.Nat.{ℕ, _+_, _-_, _<_, _≤_}
+use Prim.Native.Nat.{ℕ, zero, suc, _+_, _-_, _<_, _≤_, _/_, _%_}
 use native.Mathlib.Omega.{arith}
-use lib.ListN.{length}
+use native.Mathlib.Nat.{mod-eq-of-lt}
+use native.Mathlib.Numerals.{add-one}
+use lib.ListN.{length, length-append}
 use Rattle.words.specs.Written.{Wrote}
-use Rattle.words.proofs.Laws.{same-words, first-room, second-room, both-done}
+use Rattle.words.proofs.Laws.{same-words, first-room, second-room, both-done, Going, begin, go, done}
 use Rattle.term.specs.Steps.{step-words, steps-words}
 use Rattle.term.proofs.Round.{length-step-words}
 use Rattle.meaning.specs.declared.Node.{Node}
@@ -18,12 +20,12 @@ use Rattle.meaning.specs.Tree.{node-at, tree-at}
 use Rattle.meaning.specs.Alternative.{SeqAlt, step, single, rehop, joined, expand, copies}
 use Rattle.expand.specs.declared.Parts.{Parts}
 use Rattle.expand.specs.declared.Block.{Block}
-use Rattle.expand.specs.declared.CopyDigits.{CopyDigits}
-use Rattle.expand.specs.ByNumber.{alternatives-of, copies-of, nth, alternative-words, is-copies, single-term, digits-of, Numbered, NumberedCopies}
+use Rattle.expand.specs.ByNumber.{alternatives-of, copies-of, nth, alternative-words, is-copies, single-term, copy-number, Numbered, NumberedCopies}
 use Rattle.expand.specs.Outline.{count-in, bare-in, delay-parts, copies-block, Known}
 use Rattle.expand.proofs.Every.{has-step, each-expanded, each-copies, each-nth}
-use Rattle.expand.proofs.ByKind.{single-alternative}
-use Rattle.expand.proofs.Numbers.{Copied, nth-of-delay, nth-of-throughout, nth-of-block, nth-of-only, nth-of-copies, same-alternatives}
+use Rattle.expand.proofs.ByKind.{some-alternatives, single-alternative}
+use Rattle.expand.proofs.Numbers.{Copied, nth-of-delay, nth-of-throughout, nth-of-block, copy-counted, same-alternatives}
+use Rattle.expand.proofs.Index.{nth-copies, copies-index}
 
 -- ---- steps one after the other
 
@@ -156,38 +158,74 @@ module _ {t q : List ℕ} {n i : ℕ} {v : Node} (h : SeqHop) (o : List ℕ) (at
         → Wrote o o₁ at z (step-words s) → Wrote o o₁ at z (node-words t n h i)
     single-written {s = s} e f y = same-words (sym (single-words s e f)) y
 
-module _ {t q : List ℕ} {n k i : ℕ} (h : SeqHop) (o : List ℕ) (at : ℕ) (C : NumberedCopies t n k i) (K : Known t q n) (room : at + length (copies-words t n k h i) ≤ length o) where
-  -- one copy
-  only-words : k ≡ 0 → copies-words t n k h i ≡ node-words t n h i
-  only-words e =
-      words-of h (copies-of (alternatives-of t n) k) (alternatives-of t n) i i (ap (λ (y : SeqAlt). y .steps) (nth-of-only C K e))
+-- ---- several copies, the earliest first
 
-  pub only-room : k ≡ 0 → at + length (node-words t n h i) ≤ length o
-  only-room e = rw (only-words e) at room
+-- The words of the copies that are left, the next of them reached by h.
+pub copies-left : List ℕ → ℕ → ℕ → SeqHop → ℕ → List ℕ
+copies-left t n i h zero = []
+copies-left t n i h (suc later) =
+    node-words t n h (copy-number (length (alternatives-of t n)) i later) ++ copies-left t n i (Fixed 1) later
 
-  pub only-written : {o₁ : List ℕ} {z : ℕ} → k ≡ 0 → Wrote o o₁ at z (node-words t n h i) → Wrote o o₁ at z (copies-words t n k h i)
-  only-written e x = same-words (sym (only-words e)) x
+-- The last of them stands behind those of the number that is left without it.
+last-of-them : (t : List ℕ) (n i : ℕ) (h : SeqHop) (later : ℕ)
+    → let a = length (alternatives-of t n) in copies-left t n i h (suc (suc later)) ≡ copies-left t n (i / a) h (suc later) ++ node-words t n (Fixed 1) (i % a)
+unfolding copies-left copy-number
+last-of-them t n i h zero =
+    let a = length (alternatives-of t n) in
+    rw (append-nil (node-words t n (Fixed 1) (i % a)), append-nil (node-words t n h (i / a % a))) refl
+last-of-them t n i h (suc later) =
+    let a = length (alternatives-of t n) in
+    let next = node-words t n h (copy-number a (i / a) (suc later)) in
+    ap (λ (l : List ℕ). next ++ l) (last-of-them t n i (Fixed 1) later)
+    ∙ sym (append-assoc next (copies-left t n (i / a) (Fixed 1) (suc later)) (node-words t n (Fixed 1) (i % a)))
 
-  -- the earlier copies, then the last
-  module _ {s : CopyDigits} (m : k ≡ 0 → ⊥) (e : s ≡ digits-of (count-in q n) i) where
-    abbrev earlier : List ℕ
-    earlier = copies-words t n (k - 1) h (s .earlier)
+-- All of them are the copies' alternative.
+all-of-them : (t : List ℕ) (n k i : ℕ) (h : SeqHop) → 0 < length (alternatives-of t n) → i < length (copies-of (alternatives-of t n) k)
+    → copies-words t n k h i ≡ copies-left t n i h (suc k)
+unfolding copies-left copies-of copy-number
+all-of-them t n zero i h p q = rw (mod-eq-of-lt q) (sym (append-nil (node-words t n h i)))
+all-of-them t n (suc k) i h p q =
+    let base = alternatives-of t n in
+    let a = length base in
+    words-of-two h (Fixed 1) (copies base (suc k)) (copies base k) base i (i / a) (i % a) (nth-copies base k i p q) (some-copied-steps t n k (i / a))
+    ∙ ap (λ (l : List ℕ). l ++ node-words t n (Fixed 1) (i % a)) (all-of-them t n k (i / a) h p (copies-index base k i p q))
+    ∙ sym (last-of-them t n i h k)
 
-    abbrev last-copy : List ℕ
-    last-copy = node-words t n (Fixed 1) (s .last)
+-- The loop of `repeated`: it remains to put the copies that are left, the next of them reached by `hop`.
+pub record Repeating (t : List ℕ) (n k i : ℕ) (h : SeqHop) (o : List ℕ) (at : ℕ) (o′ : List ℕ) (hop : SeqHop) (p left : ℕ) : Type 0 where
+  pub few : left ≤ k + 1
+  pub long : length o′ ≡ length o
+  pub going : Going o at (copies-words t n k h i) o′ p (copies-left t n i hop left)
 
-    all-words : copies-words t n k h i ≡ earlier ++ last-copy
-    all-words =
-        words-of-two h (Fixed 1) (copies-of (alternatives-of t n) k) (copies-of (alternatives-of t n) (k - 1))
-        (alternatives-of t n) i (s .earlier) (s .last) (nth-of-copies C K m e) (some-copied-steps t n (k - 1) (s .earlier))
+pub repeating-begins : {t : List ℕ} {n k i : ℕ} (h : SeqHop) (o : List ℕ) (at : ℕ) → NumberedCopies t n k i
+    → Repeating t n k i h o at o h at (k + 1)
+repeating-begins {t} {n} {k} {i} h o at C = record {
+  few = omega arith;
+  long = refl;
+  going = rw (add-one k, ← all-of-them t n k i h (some-alternatives (C .node)) (C .index)) (begin o at _);
+}
 
-    pub earlier-room : at + length (copies-words t n (k - 1) h (s .earlier)) ≤ length o
-    earlier-room = first-room at earlier last-copy all-words room
+module _ {t q : List ℕ} {n k i : ℕ} {h : SeqHop} {o : List ℕ} {at : ℕ} {o′ : List ℕ} {hop : SeqHop} {p left d : ℕ}
+    (C : NumberedCopies t n k i) (K : Known t q n) (R : Repeating t n k i h o at o′ hop p left) (m : 0 < left)
+    (e : d ≡ copy-number (count-in q n) i (left - 1)) where
+  -- The next copy, then the others.
+  next-of-them : copies-left t n i hop left ≡ node-words t n hop d ++ copies-left t n i (Fixed 1) (left - 1)
+  unfolding copies-left
+  next-of-them =
+      let s : left ≡ suc (left - 1) = omega arith in
+      ap (copies-left t n i hop) s ∙ rw (copy-counted C K (left - 1) e) refl
 
-    module _ {o₁ : List ℕ} {z : ℕ} (x : Wrote o o₁ at z (copies-words t n (k - 1) h (s .earlier))) where
-      pub last-room : z + length (node-words t n (Fixed 1) (s .last)) ≤ length o₁
-      last-room = second-room earlier last-copy all-words room x
+  pub copy-room : at + length (copies-words t n k h i) ≤ length o → p + length (node-words t n hop d) ≤ length o′
+  copy-room room =
+      omega (arith, room, R .long, R .going .place, ap length next-of-them, length-append (node-words t n hop d) (copies-left t n i (Fixed 1) (left - 1)))
 
-      pub copies-written : {o₂ : List ℕ} {y : ℕ} → Wrote o₁ o₂ z y (node-words t n (Fixed 1) (s .last))
-          → Wrote o o₂ at y (copies-words t n k h i)
-      copies-written y = both-done all-words x y
+  pub repeating-on : {o″ : List ℕ} {z : ℕ} → Wrote o′ o″ p z (node-words t n hop d)
+      → Repeating t n k i h o at o″ (Fixed 1) z (left - 1)
+  repeating-on x =
+      let next = go (node-words t n hop d) (copies-left t n i (Fixed 1) (left - 1)) (rw next-of-them at (R .going)) x in
+      record { few = omega (arith, R .few); long = next .long; going = next }
+
+pub repeating-ends : {t : List ℕ} {n k i : ℕ} {h : SeqHop} {o : List ℕ} {at : ℕ} {o′ : List ℕ} {hop : SeqHop} {p left : ℕ}
+    → Repeating t n k i h o at o′ hop p left → left ≤ 0 → Wrote o o′ at p (copies-words t n k h i)
+unfolding copies-left
+repeating-ends {left = left} R m = let z : left ≡ 0 = omega arith in done (rw z at (R .going))

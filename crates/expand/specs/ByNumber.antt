@@ -19,7 +19,6 @@ use Rattle.meaning.specs.Alternative.{SeqAlt, single, rehop, copies, expand}
 use Rattle.meaning.specs.Lowerable.{FormedTable, Walkable}
 use Rattle.expand.specs.declared.Parts.{Parts}
 use Rattle.expand.specs.declared.Block.{Block}
-use Rattle.expand.specs.declared.CopyDigits.{CopyDigits}
 
 -- The alternatives of node n of the table.
 unfoldable pub alternatives-of : List ℕ → ℕ → List SeqAlt
@@ -95,9 +94,11 @@ single-term t v i =
     (Nonconsec (node-at t (v .p) .p) (v .min))
     (pick (ltb i (empties (v .min))) Empty (ConsecAtLeast (node-at t (v .p) .p) (v .min - 1 + 1)))))
 
--- "earlier copies vary slowest": alternative i of several copies of an operand that has a.
-unfoldable pub digits-of : ℕ → ℕ → CopyDigits
-digits-of a i = record { earlier = i / a; last = i % a }
+-- "earlier copies vary slowest": which alternative of an operand that has a stands, in alternative i of several copies, in the
+-- copy that so many later ones follow.
+unfoldable pub copy-number : ℕ → ℕ → ℕ → ℕ
+copy-number a i zero = i % a
+copy-number a i (suc later) = copy-number a (i / a) later
 
 -- The operand of a node of another kind than 1 can be read.
 pub record OperandInside (t : List ℕ) (v : Node) : Type 0 where
@@ -120,4 +121,5 @@ pub record Numbered (t : List ℕ) (n i : ℕ) : Type 0 where
 pub record NumberedCopies (t : List ℕ) (n k i : ℕ) : Type 0 where
   pub node : Expandable t n
   pub few : k ≤ 256
+  pub few-numbers : length (copies-of (alternatives-of t n) k) ≤ 256
   pub index : i < length (copies-of (alternatives-of t n) k)

@@ -12,7 +12,7 @@ ghost use Rattle.words.specs.Choice.{pick};
 ghost use Rattle.words.specs.Written.{written, Wrote};
 ghost use Rattle.meaning.specs.Tree.{finite, tree-at, nodes};
 ghost use Rattle.expand.specs.Outline.{is-once, count-in, bare-in, flag-in, delay-parts, copies-block, DelayCounted, CopiesCounted, outlined, Known};
-ghost use Rattle.expand.specs.ByNumber.{alternatives-of, copies-of, alternative-words, hops-between, hop-at, parts-of, copies-count, copies-from-count, block-of, empties, repeats, is-copies, single-count, single-term, digits-of, OperandInside, Expandable, Numbered, NumberedCopies};
+ghost use Rattle.expand.specs.ByNumber.{alternatives-of, copies-of, alternative-words, hops-between, hop-at, parts-of, copies-count, copies-from-count, block-of, empties, repeats, is-copies, single-count, single-term, copy-number, OperandInside, Expandable, Numbered, NumberedCopies};
 
 // What an alternative of a delay is made of: its hop, and the numbers of the left's and the right's alternative.
 pub struct Parts {
@@ -25,12 +25,6 @@ pub struct Parts {
 pub struct Block {
     pub later: u32,
     pub index: u32,
-}
-
-// What an alternative of several copies is made of: the number of the earlier copies' alternative, and of the last copy's.
-pub struct CopyDigits {
-    pub earlier: u32,
-    pub last: u32,
 }
 
 // How many hops a delay has.
@@ -323,22 +317,20 @@ pub fn copies_block(outline: &[u32], v: meaning::Node, i: u32) -> Block
     place(v.min, v.max, a, i)
 }
 
-// What alternative i of several copies of node n is made of.
-pub fn copy_digits(outline: &[u32], n: u32, i: u32) -> CopyDigits
-    requires { ⌜ (n < length (now outline)) × (0 < count-in (now outline) n) ⌝ }
-    ensures { λ r. ⌜ r ≡ digits-of (count-in (now (outline .entry)) n) i ⌝ }
+// Which alternative of node n stands, in alternative i of several copies, in the copy that `later` copies follow. In number 0 it is
+// number 0, which needs no division.
+pub fn copy_number(outline: &[u32], n: u32, i: u32, later: u32) -> u32
+    requires { ⌜ (n < length (now outline)) × (0 < count-in (now outline) n) × (copies-count (count-in (now outline) n) later ≤ 256) ⌝ }
+    ensures { λ r. ⌜ r ≡ copy-number (count-in (now (outline .entry)) n) i later ⌝ }
 {
     if i == 0 {
-        return CopyDigits {
-            earlier: 0,
-            last: 0,
-        };
+        return 0;
     }
     let a = count_of(outline, n);
-    CopyDigits {
-        earlier: i / a,
-        last: i % a,
+    if later == 0 {
+        return i % a;
     }
+    i / count_copies(a, later - 1) % a
 }
 
 // The one term of alternative i of a node that has none of an operand's alternatives in it.
@@ -411,7 +403,7 @@ fn bare_alternative(
     term::store(work, at, s)
 }
 
-// The same of k + 1 copies of node n: earlier copies vary slowest, and each after the first is reached by Fixed(1).
+// The same of k + 1 copies of node n, one after the other: each after the first is reached by Fixed(1).
 fn repeated(
     t: &[u32],
     outline: &[u32],
@@ -425,10 +417,14 @@ fn repeated(
     requires { ⌜ NumberedCopies (now t) n k i × Known (now t) (now outline) n × (at + length (alternative-words h (copies-of (alternatives-of (now t) n) k) i) ≤ length (now work)) ⌝ }
     ensures { λ next. ⌜ Wrote (now (work .entry)) (now (work .exit)) at next (alternative-words h (copies-of (alternatives-of (now (t .entry)) n) k) i) ⌝ }
 {
-    if k == 0 {
-        return alternative(t, outline, n, i, h, work, at);
+    let mut hop = h;
+    let mut place = at;
+    let mut left = k + 1;
+    while 0 < left {
+        left -= 1;
+        let number = copy_number(outline, n, i, left);
+        place = alternative(t, outline, n, number, hop, work, place);
+        hop = meaning::SeqHop::Fixed(1);
     }
-    let s = copy_digits(outline, n, i);
-    let w = repeated(t, outline, n, k - 1, s.earlier, h, work, at);
-    alternative(t, outline, n, s.last, meaning::SeqHop::Fixed(1), work, w)
+    place
 }

@@ -3,8 +3,10 @@
 use mathlib.Core.Path.{_≡_, refl, sym, ap, _∙_}
 use mathlib.Core.Bool.{Bool, true, false}
 use mathlib.Core.List.{List, [], _∷_, _++_, append-nil}
-use Prim.Native.Nat.{ℕ, zero, suc, _+_, _-_, _<_, _≤_}
+use Prim.Native.Nat.{ℕ, zero, suc, _+_, _-_, _<_, _≤_, _/_, _%_}
 use native.Mathlib.Omega.{arith}
+use native.Mathlib.Nat.{mod-eq-of-lt}
+use native.Mathlib.Numerals.{add-one}
 use lib.ListN.{length, length-append}
 use borrow.Author.Tests.{eq-eqb, ne-eqb}
 use Rattle.words.specs.Choice.{pick, pick-true, pick-false}
@@ -21,12 +23,12 @@ use Rattle.meaning.specs.Refusals.{has-guard, guarded}
 use Rattle.meaning.proofs.Emitted.{some-words}
 use Rattle.expand.specs.declared.Parts.{Parts}
 use Rattle.expand.specs.declared.Block.{Block}
-use Rattle.expand.specs.declared.CopyDigits.{CopyDigits}
-use Rattle.expand.specs.ByNumber.{alternatives-of, copies-of, nth, is-copies, digits-of, Numbered, NumberedCopies}
+use Rattle.expand.specs.ByNumber.{alternatives-of, copies-of, nth, is-copies, copy-number, Numbered, NumberedCopies}
 use Rattle.expand.specs.Outline.{guard-flag, count-in, bare-in, flag-in, delay-parts, copies-block, Known}
 use Rattle.expand.proofs.Outlines.{flag-known}
-use Rattle.expand.proofs.ByKind.{well-formed, single-alternative}
-use Rattle.expand.proofs.Numbers.{Copied, nth-of-delay, nth-of-throughout, nth-of-block, nth-of-only, nth-of-copies, same-alternatives}
+use Rattle.expand.proofs.Index.{nth-copies, copies-index}
+use Rattle.expand.proofs.ByKind.{some-alternatives, well-formed, single-alternative}
+use Rattle.expand.proofs.Numbers.{Copied, nth-of-delay, nth-of-throughout, nth-of-block, copy-counted, same-alternatives}
 use Rattle.guards.specs.GuardText.{guard-expression, guard-text, closed-guard, joining}
 
 -- ---- `join_guards`
@@ -70,6 +72,12 @@ text-of-two (guard x) unguarded from middle end p q =
     sym (ap (λ (l : List ℕ). expression-words x ++ l) (join-first (λ e. omega (arith, some-words x)) (omega arith)) ∙ append-nil (expression-words x))
 text-of-two (guard x) (guard y) from middle end p q =
     ap (λ (l : List ℕ). expression-words x ++ (expression-words y ++ l)) (sym (join-both (λ e. omega (arith, some-words x)) (λ e. omega (arith, some-words y))))
+
+first-shorter : (g h : Guard) → length (guard-expression g) ≤ length (guard-expression (and-opt g h))
+first-shorter g h =
+    let m = length (guard-expression g) in
+    let z = m + length (guard-expression h) in
+    omega (arith, ap length (text-of-two g h 0 m z (omega arith) refl), length-append (guard-expression g) (guard-expression h ++ joining 0 m z))
 
 module _ (y g h : Guard) (e : y ≡ and-opt g h) (o : List ℕ) (at : ℕ) (room : at + length (guard-expression y) ≤ length o) where
   joined-room : at + length (guard-expression (and-opt g h)) ≤ length o
@@ -229,50 +237,100 @@ module _ {t q : List ℕ} {n i : ℕ} {v : Node} (o : List ℕ) (at : ℕ) (N : 
   single-unguarded d g c x =
       same-words (ap (λ (y : SeqAlt). guard-expression (y .guard)) (sym (single-alternative (N .node) w d g i (N .index) c x))) (nothing-written o at)
 
-module _ {t q : List ℕ} {n k i : ℕ} (o : List ℕ) (at : ℕ) (C : NumberedCopies t n k i) (K : Known t q n) (room : at + length (copies-guard t n k i) ≤ length o) where
-  -- one copy
-  only-guard : k ≡ 0 → copies-guard t n k i ≡ node-guard t n i
-  unfolding guard-text
-  only-guard e = ap (λ (y : SeqAlt). guard-expression (y .guard)) (nth-of-only C K e)
+-- ---- several copies, each joined to those before it
 
-  pub only-room : k ≡ 0 → at + length (node-guard t n i) ≤ length o
-  only-room e = rw (only-guard e) at room
+-- The guard of one of them.
+abbrev copy-guard : List ℕ → ℕ → ℕ → ℕ → Guard
+copy-guard t n i later = nth (alternatives-of t n) (copy-number (length (alternatives-of t n)) i later) .guard
 
-  pub only-guarded : {o₁ : List ℕ} {z : ℕ} → k ≡ 0 → Wrote o o₁ at z (node-guard t n i) → Wrote o o₁ at z (copies-guard t n k i)
-  only-guarded e x = same-words (sym (only-guard e)) x
+-- The guard of the copies so far, with those of the copies that are left.
+pub joined-on : List ℕ → ℕ → ℕ → Guard → ℕ → Guard
+joined-on t n i g zero = g
+joined-on t n i g (suc later) = joined-on t n i (and-opt g (copy-guard t n i later)) later
 
-  -- the earlier copies, then the last
-  module _ {s : CopyDigits} (m : k ≡ 0 → ⊥) (e : s ≡ digits-of (count-in q n) i) where
-    abbrev all : Guard
-    all = nth (copies-of (alternatives-of t n) k) i .guard
+-- The last of them is joined to those of the number that is left without it.
+last-joined : (t : List ℕ) (n i : ℕ) (g : Guard) (later : ℕ)
+    → let a = length (alternatives-of t n) in joined-on t n i g (suc later) ≡ and-opt (joined-on t n (i / a) g later) (nth (alternatives-of t n) (i % a) .guard)
+unfolding joined-on copy-number
+last-joined t n i g zero = refl
+last-joined t n i g (suc later) = last-joined t n i (and-opt g (copy-guard t n i (suc later))) later
 
-    abbrev earlier : Guard
-    earlier = nth (copies-of (alternatives-of t n) (k - 1)) (s .earlier) .guard
+-- All of them are the guard of the copies' alternative.
+all-joined : (t : List ℕ) (n k i : ℕ) → 0 < length (alternatives-of t n) → i < length (copies-of (alternatives-of t n) k)
+    → nth (copies-of (alternatives-of t n) k) i .guard ≡ joined-on t n i unguarded (suc k)
+unfolding joined-on copies-of copy-number
+all-joined t n zero i p q = ap (λ (z : ℕ). nth (alternatives-of t n) z .guard) (sym (mod-eq-of-lt q))
+all-joined t n (suc k) i p q =
+    let base = alternatives-of t n in
+    let a = length base in
+    ap (λ (y : SeqAlt). y .guard) (nth-copies base k i p q)
+    ∙ ap (λ (g : Guard). and-opt g (nth base (i % a) .guard)) (all-joined t n k (i / a) p (copies-index base k i p q))
+    ∙ sym (last-joined t n i unguarded (suc k))
 
-    abbrev last-copy : Guard
-    last-copy = nth (alternatives-of t n) (s .last) .guard
+-- What is joined to a guard makes it no shorter.
+no-shorter : (t : List ℕ) (n i : ℕ) (g : Guard) (later : ℕ) → length (guard-expression g) ≤ length (guard-expression (joined-on t n i g later))
+unfolding joined-on
+no-shorter t n i g zero = omega arith
+no-shorter t n i g (suc later) =
+    omega (arith, first-shorter g (copy-guard t n i later), no-shorter t n i (and-opt g (copy-guard t n i later)) later)
 
-    copies-guarded-by : all ≡ and-opt earlier last-copy
-    copies-guarded-by = ap (λ (y : SeqAlt). y .guard) (nth-of-copies C K m e)
+-- The loop of `repeated_guard`: the guard so far stands there, and with the copies that are left it is the whole.
+pub record Joining (t : List ℕ) (n k i : ℕ) (o : List ℕ) (at : ℕ) (o′ : List ℕ) (middle left : ℕ) : Type 0 where
+  pub few : left ≤ k + 1
+  pub long : length o′ ≡ length o
+  pub so-far : Guard
+  pub stands : Wrote o o′ at middle (guard-expression so-far)
+  pub rest : nth (copies-of (alternatives-of t n) k) i .guard ≡ joined-on t n i so-far left
 
-    pub earlier-room : at + length (copies-guard t n (k - 1) (s .earlier)) ≤ length o
+pub joining-begins : {t : List ℕ} {n k i : ℕ} (o : List ℕ) (at : ℕ) → NumberedCopies t n k i → Joining t n k i o at o at (k + 1)
+joining-begins {t} {n} {k} {i} o at C = record {
+  few = omega arith;
+  long = refl;
+  so-far = unguarded;
+  stands = nothing-written o at;
+  rest = all-joined t n k i (some-alternatives (C .node)) (C .index) ∙ ap (joined-on t n i unguarded) (sym (add-one k));
+}
+
+module _ {t q : List ℕ} {n k i : ℕ} {o : List ℕ} {at : ℕ} {o′ : List ℕ} {middle left d : ℕ}
+    (C : NumberedCopies t n k i) (K : Known t q n) (J : Joining t n k i o at o′ middle left) (m : 0 < left)
+    (e : d ≡ copy-number (count-in q n) i (left - 1)) where
+  abbrev next-copy : Guard
+  next-copy = nth (alternatives-of t n) d .guard
+
+  -- One copy more is joined.
+  one-joined : nth (copies-of (alternatives-of t n) k) i .guard ≡ joined-on t n i (and-opt (J .so-far) next-copy) (left - 1)
+  unfolding joined-on
+  one-joined =
+      let s : left ≡ suc (left - 1) = omega arith in
+      J .rest ∙ ap (joined-on t n i (J .so-far)) s ∙ rw (copy-counted C K (left - 1) e) refl
+
+  module _ (room : at + length (copies-guard t n k i) ≤ length o) where
+    all-room : at + length (guard-expression (and-opt (J .so-far) next-copy)) ≤ length o
     unfolding guard-text
-    earlier-room = first-guard-room all earlier last-copy copies-guarded-by o at room
+    all-room =
+        omega (arith, room, ap (λ (g : Guard). length (guard-expression g)) one-joined, no-shorter t n i (and-opt (J .so-far) next-copy) (left - 1))
 
-    module _ {o₁ : List ℕ} {middle : ℕ} (x : Wrote o o₁ at middle (copies-guard t n (k - 1) (s .earlier))) where
-      pub last-room : middle + length (node-guard t n (s .last)) ≤ length o₁
+    pub copy-room : middle + length (node-guard t n d) ≤ length o′
+    unfolding guard-text
+    copy-room = second-guard-room (and-opt (J .so-far) next-copy) (J .so-far) next-copy refl o at all-room (J .stands)
+
+    module _ {o″ : List ℕ} {end : ℕ} (x : Wrote o′ o″ middle end (node-guard t n d)) where
+      pub copy-join-room : end + length (joining at middle end) ≤ length o″
       unfolding guard-text
-      last-room = second-guard-room all earlier last-copy copies-guarded-by o at room x
+      copy-join-room = join-room (and-opt (J .so-far) next-copy) (J .so-far) next-copy refl o at all-room (J .stands) x
 
-      module _ {o₂ : List ℕ} {end : ℕ} (y : Wrote o₁ o₂ middle end (node-guard t n (s .last))) where
-        pub copies-join-room : end + length (joining at middle end) ≤ length o₂
-        unfolding guard-text
-        copies-join-room = join-room all earlier last-copy copies-guarded-by o at room x y
+      pub joining-on : {o‴ : List ℕ} {next : ℕ} → Wrote o″ o‴ end next (joining at middle end) → Joining t n k i o at o‴ next (left - 1)
+      unfolding guard-text
+      joining-on y =
+          let z = guards-joined (and-opt (J .so-far) next-copy) (J .so-far) next-copy refl o at all-room (J .stands) x y in
+          record { few = omega (arith, J .few); long = still-long z; so-far = and-opt (J .so-far) next-copy; stands = z; rest = one-joined }
 
-        pub copies-guarded : {o₃ : List ℕ} {next : ℕ} → Wrote o₂ o₃ end next (joining at middle end)
-            → Wrote o o₃ at next (copies-guard t n k i)
-        unfolding guard-text
-        copies-guarded z = guards-joined all earlier last-copy copies-guarded-by o at room x y z
+pub joining-ends : {t : List ℕ} {n k i : ℕ} {o : List ℕ} {at : ℕ} {o′ : List ℕ} {middle left : ℕ} → Joining t n k i o at o′ middle left → left ≤ 0
+    → Wrote o o′ at middle (copies-guard t n k i)
+unfolding guard-text joined-on
+joining-ends {left = left} J m =
+    let z : left ≡ 0 = omega arith in
+    same-words (ap guard-expression (sym (rw z at (J .rest)))) (J .stands)
 
 -- ---- `guard_words`
 

@@ -78,7 +78,7 @@ fn bare_guard(t: &[u32], outline: &[u32], n: u32, i: u32, work: &mut [u32], at: 
     at
 }
 
-// The same of k + 1 copies of node n.
+// The same of k + 1 copies of node n, each joined to those before it.
 fn repeated_guard(
     t: &[u32],
     outline: &[u32],
@@ -91,13 +91,15 @@ fn repeated_guard(
     requires { ⌜ NumberedCopies (now t) n k i × Known (now t) (now outline) n × (at + length (guard-text (copies-of (alternatives-of (now t) n) k) i) ≤ length (now work)) ⌝ }
     ensures { λ next. ⌜ Wrote (now (work .entry)) (now (work .exit)) at next (guard-text (copies-of (alternatives-of (now (t .entry)) n) k) i) ⌝ }
 {
-    if k == 0 {
-        return guard_text(t, outline, n, i, work, at);
+    let mut middle = at;
+    let mut left = k + 1;
+    while 0 < left {
+        left -= 1;
+        let number = expand::copy_number(outline, n, i, left);
+        let end = guard_text(t, outline, n, number, work, middle);
+        middle = join_guards(work, at, middle, end);
     }
-    let s = expand::copy_digits(outline, n, i);
-    let middle = repeated_guard(t, outline, n, k - 1, s.earlier, work, at);
-    let end = guard_text(t, outline, n, s.last, work, middle);
-    join_guards(work, at, middle, end)
+    middle
 }
 
 // Puts the guard of alternative i of node n from the place on, closed by its `and` if there is one; the next place.

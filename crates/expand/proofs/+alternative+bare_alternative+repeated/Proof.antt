@@ -1,10 +1,10 @@
--- `alternative`, `bare_alternative` and `repeated` write the words of the numbered alternative, by the node number and then by
--- the copies left.
+-- `alternative`, `bare_alternative` and `repeated` write the words of the numbered alternative, by the node number; copies are
+-- written one after the other.
 use borrow.Author.Needs.{needs}
 use Prim.Native.Nat.{_+_, _*_}
 use Rattle.expand.proofs.ByKind.{operand-inside}
-use Rattle.expand.proofs.Numbers.{node-inside, bare-below, bare-numbered, bare-node-known, delay-counts, left-below, right-below, left-numbered, right-numbered, left-operand-known, right-operand-known, guarded-below, guarded-numbered, guarded-operand-known, copied, copies-counts, block-below, block-numbered, base-known, only-below, only-numbered, copy-inside, copy-some, earlier-below, earlier-numbered, last-numbered}
-use Rattle.expand.proofs.Written.{bare-room, bare-written, left-room, right-room, delay-written, guarded-room, throughout-written, block-room, block-written, single-room, single-written, only-room, only-written, earlier-room, last-room, copies-written}
+use Rattle.expand.proofs.Numbers.{node-inside, bare-below, bare-numbered, bare-node-known, delay-counts, left-below, right-below, left-numbered, right-numbered, left-operand-known, right-operand-known, guarded-below, guarded-numbered, guarded-operand-known, copied, copies-counts, block-below, block-numbered, base-known, copy-below, copy-inside, copy-some, copy-few, copy-numbered}
+use Rattle.expand.proofs.Written.{bare-room, bare-written, left-room, right-room, delay-written, guarded-room, throughout-written, block-room, block-written, single-room, single-written, Repeating, repeating-begins, copy-room, repeating-on, repeating-ends}
 use Prim.Native.Nat.{ℕ, _<_}
 use borrow.Fn.Kinds.{In}
 use borrow.Fn.PlainCycle.{Measures, is, falls, and}
@@ -19,7 +19,7 @@ use Rattle.expand.proofs.repeated.Kinds as repeated-kinds
 use Rattle.expand.proofs.+alternative+bare_alternative+repeated.Lts-repeated as repeated-lts
 use Rattle.expand.proofs.bare_of.Reads as bare-of-reads
 use Rattle.expand.proofs.copies_block.Reads as copies-block-reads
-use Rattle.expand.proofs.copy_digits.Reads as copy-digits-reads
+use Rattle.expand.proofs.copy_number.Reads as copy-number-reads
 use Rattle.expand.proofs.delay_parts.Reads as delay-parts-reads
 use Rattle.expand.proofs.made_of_copies.Reads as made-of-copies-reads
 use Rattle.expand.proofs.single_term.Reads as single-term-reads
@@ -29,13 +29,13 @@ use Rattle.expand.proofs.+alternative+bare_alternative+repeated.{statem
 use Rattle.expand.proofs.+alternative+bare_alternative+repeated.Tie.{close}
 
 abbrev μ-alternative : Measures 3 alternative-kinds.ps ℕ
-μ-alternative κs a = a .1 .1 .0 * 1024 + 1
+μ-alternative κs a = a .1 .1 .0 * 3 + 1
 
 abbrev μ-bare-alternative : Measures 3 bare-alternative-kinds.ps ℕ
-μ-bare-alternative κs a = a .1 .1 .0 * 1024
+μ-bare-alternative κs a = a .1 .1 .0 * 3
 
 abbrev μ-repeated : Measures 3 repeated-kinds.ps ℕ
-μ-repeated κs a = a .1 .1 .0 * 1024 + (a .1 .1 .1 .0 + 2)
+μ-repeated κs a = a .1 .1 .0 * 3 + 2
 
 abbrev alternative-at : ℕ → In 3 alternative-kinds.ps
 alternative-at t =
@@ -72,7 +72,7 @@ abbrev bare-callees : ℕ → bare-alternative-lts.Claims
 bare-callees t = (read-reads.Asked, read-reads.Learnt, delay-parts-reads.Asked, delay-parts-reads.Learnt, alternative-below t, alternative.Post, made-of-copies-reads.Asked, made-of-copies-reads.Learnt, copies-block-reads.Asked, copies-block-reads.Learnt, repeated-below t, repeated.Post, single-term-reads.Asked, single-term-reads.Learnt, store-reads.Asked, store-reads.Learnt)
 
 abbrev copies-callees : ℕ → repeated-lts.Claims
-copies-callees t = (alternative-below t, alternative.Post, copy-digits-reads.Asked, copy-digits-reads.Learnt, repeated-below t, repeated.Post)
+copies-callees t = (copy-number-reads.Asked, copy-number-reads.Learnt, alternative-below t, alternative.Post)
 
 abbrev callees : ℕ → alternative-lts.Claims
 callees t = (bare-of-reads.Asked, bare-of-reads.Learnt, bare-alternative-below t, bare-alternative.Post)
@@ -146,32 +146,39 @@ bare-alternative-same-length-4 t c = search needs
 bare-alternative-returns-4 : (t : ℕ) → bare-alternative-lts.Need-returns-4 (bare-callees t) (bare-alternative-at t) bare-alternative.Post
 bare-alternative-returns-4 t c = search single-written
 
-repeated-alternative-requires : (t : ℕ) → repeated-lts.Need-alternative-requires (copies-callees t) (repeated-at t) repeated.Post
-repeated-alternative-requires t c κs = (search only-below, (search only-numbered, search needs, search only-room))
+abbrev repeated-Inv-loop : repeated-lts.InvT-loop
+repeated-Inv-loop t outline n k i work₀ at hop₀ place₀ left₀ work hop place left =
+    Repeating t n k i hop₀ work₀ at work hop place left
 
-repeated-same-length : (t : ℕ) → repeated-lts.Need-same-length (copies-callees t) (repeated-at t) repeated.Post
+abbrev repeated-μ-loop : repeated-lts.MeasureT-loop
+repeated-μ-loop t outline n k i work₀ at hop₀ place₀ left₀ work hop place left = left
+
+repeated-add-left : (t : ℕ) → repeated-lts.Need-add-left (copies-callees t) (repeated-at t) repeated.Post repeated-Inv-loop repeated-μ-loop
+repeated-add-left t c = search needs
+
+repeated-loop-holds : (t : ℕ) → repeated-lts.Need-loop-holds (copies-callees t) (repeated-at t) repeated.Post repeated-Inv-loop repeated-μ-loop
+repeated-loop-holds t c = search repeating-begins
+
+repeated-sub-left : (t : ℕ) → repeated-lts.Need-sub-left (copies-callees t) (repeated-at t) repeated.Post repeated-Inv-loop repeated-μ-loop
+repeated-sub-left t c = search needs
+
+repeated-copy-number-requires : (t : ℕ) → repeated-lts.Need-copy-number-requires (copies-callees t) (repeated-at t) repeated.Post repeated-Inv-loop repeated-μ-loop
+repeated-copy-number-requires t c κs = (search copy-inside, search copy-some, search copy-few)
+
+repeated-alternative-requires : (t : ℕ) → repeated-lts.Need-alternative-requires (copies-callees t) (repeated-at t) repeated.Post repeated-Inv-loop repeated-μ-loop
+repeated-alternative-requires t c κs = (search copy-below, (search copy-numbered, search needs, search copy-room))
+
+repeated-loop-less : (t : ℕ) → repeated-lts.Need-loop-less (copies-callees t) (repeated-at t) repeated.Post repeated-Inv-loop repeated-μ-loop
+repeated-loop-less t c = search needs
+
+repeated-loop-again : (t : ℕ) → repeated-lts.Need-loop-again (copies-callees t) (repeated-at t) repeated.Post repeated-Inv-loop repeated-μ-loop
+repeated-loop-again t c = search repeating-on
+
+repeated-same-length : (t : ℕ) → repeated-lts.Need-same-length (copies-callees t) (repeated-at t) repeated.Post repeated-Inv-loop repeated-μ-loop
 repeated-same-length t c = search needs
 
-repeated-returns : (t : ℕ) → repeated-lts.Need-returns (copies-callees t) (repeated-at t) repeated.Post
-repeated-returns t c = search only-written
-
-repeated-copy-digits-requires : (t : ℕ) → repeated-lts.Need-copy-digits-requires (copies-callees t) (repeated-at t) repeated.Post
-repeated-copy-digits-requires t c κs = (search copy-inside, search copy-some)
-
-repeated-sub-repeated : (t : ℕ) → repeated-lts.Need-sub-repeated (copies-callees t) (repeated-at t) repeated.Post
-repeated-sub-repeated t c = search needs
-
-repeated-repeated-requires : (t : ℕ) → repeated-lts.Need-repeated-requires (copies-callees t) (repeated-at t) repeated.Post
-repeated-repeated-requires t c κs = (search earlier-below, (search earlier-numbered, search needs, search earlier-room))
-
-repeated-alternative-requires-2 : (t : ℕ) → repeated-lts.Need-alternative-requires-2 (copies-callees t) (repeated-at t) repeated.Post
-repeated-alternative-requires-2 t c κs = (search only-below, (search last-numbered, search needs, search last-room))
-
-repeated-same-length-2 : (t : ℕ) → repeated-lts.Need-same-length-2 (copies-callees t) (repeated-at t) repeated.Post
-repeated-same-length-2 t c = search needs
-
-repeated-returns-2 : (t : ℕ) → repeated-lts.Need-returns-2 (copies-callees t) (repeated-at t) repeated.Post
-repeated-returns-2 t c = search copies-written
+repeated-returns : (t : ℕ) → repeated-lts.Need-returns (copies-callees t) (repeated-at t) repeated.Post repeated-Inv-loop repeated-μ-loop
+repeated-returns t c = search repeating-ends
 
 pub +alternative+bare-alternative+repeated-spec : {M : Type 1} → statement M
 +alternative+bare-alternative+repeated-spec =
@@ -206,12 +213,14 @@ pub +alternative+bare-alternative+repeated-spec : {M : Type 1} → statement M
     λ t. repeated-lts.spec (copies-callees t)
     (repeated-at t)
     repeated.Post
+    repeated-Inv-loop
+    repeated-μ-loop
+    (repeated-add-left t)
+    (repeated-loop-holds t)
+    (repeated-sub-left t)
+    (repeated-copy-number-requires t)
     (repeated-alternative-requires t)
+    (repeated-loop-less t)
+    (repeated-loop-again t)
     (repeated-same-length t)
     (repeated-returns t)
-    (repeated-copy-digits-requires t)
-    (repeated-sub-repeated t)
-    (repeated-repeated-requires t)
-    (repeated-alternative-requires-2 t)
-    (repeated-same-length-2 t)
-    (repeated-returns-2 t)

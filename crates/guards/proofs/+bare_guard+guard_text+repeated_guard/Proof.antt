@@ -1,9 +1,9 @@
--- `guard_text`, `bare_guard` and `repeated_guard` write the words of the numbered alternative's guard, by the node number and then
--- by the copies left.
+-- `guard_text`, `bare_guard` and `repeated_guard` write the words of the numbered alternative's guard, by the node number; those of
+-- copies are joined one after the other.
 use borrow.Author.Needs.{needs}
 use Prim.Native.Nat.{_+_, _*_}
-use Rattle.expand.proofs.Numbers.{node-inside, bare-below, bare-numbered, bare-node-known, delay-counts, left-below, right-below, left-numbered, right-numbered, left-operand-known, right-operand-known, guarded-below, guarded-numbered, guarded-operand-known, copied, copies-counts, block-below, block-numbered, base-known, only-below, only-numbered, copy-inside, copy-some, earlier-below, earlier-numbered, last-numbered}
-use Rattle.guards.proofs.Laws.{unguarded-text, bare-guard-room, bare-guarded, left-room, right-room, delay-join-room, delay-guarded, condition-small, under-room, condition-room, throughout-join-room, throughout-guarded, block-room, block-guarded, single-unguarded, only-room, only-guarded, earlier-room, last-room, copies-join-room, copies-guarded}
+use Rattle.expand.proofs.Numbers.{node-inside, bare-below, bare-numbered, bare-node-known, delay-counts, left-below, right-below, left-numbered, right-numbered, left-operand-known, right-operand-known, guarded-below, guarded-numbered, guarded-operand-known, copied, copies-counts, block-below, block-numbered, base-known, copy-below, copy-inside, copy-some, copy-few, copy-numbered}
+use Rattle.guards.proofs.Laws.{unguarded-text, bare-guard-room, bare-guarded, left-room, right-room, delay-join-room, delay-guarded, condition-small, under-room, condition-room, throughout-join-room, throughout-guarded, block-room, block-guarded, single-unguarded, Joining, joining-begins, copy-room, copy-join-room, joining-on, joining-ends}
 use Prim.Native.Nat.{ℕ, _<_}
 use borrow.Fn.Kinds.{In}
 use borrow.Fn.PlainCycle.{Measures, is, falls, and}
@@ -18,7 +18,7 @@ use Rattle.guards.proofs.repeated_guard.Kinds as repeated-guard-kinds
 use Rattle.guards.proofs.+bare_guard+guard_text+repeated_guard.Lts-repeated_guard as repeated-guard-lts
 use Rattle.expand.proofs.bare_of.Reads as bare-of-reads
 use Rattle.expand.proofs.copies_block.Reads as copies-block-reads
-use Rattle.expand.proofs.copy_digits.Reads as copy-digits-reads
+use Rattle.expand.proofs.copy_number.Reads as copy-number-reads
 use Rattle.expand.proofs.delay_parts.Reads as delay-parts-reads
 use Rattle.expand.proofs.flag_of.Reads as flag-of-reads
 use Rattle.expand.proofs.made_of_copies.Reads as made-of-copies-reads
@@ -29,13 +29,13 @@ use Rattle.guards.proofs.+bare_guard+guard_text+repeated_guard.{stateme
 use Rattle.guards.proofs.+bare_guard+guard_text+repeated_guard.Tie.{close}
 
 abbrev μ-bare-guard : Measures 3 bare-guard-kinds.ps ℕ
-μ-bare-guard κs a = a .1 .1 .0 * 1024
+μ-bare-guard κs a = a .1 .1 .0 * 3
 
 abbrev μ-guard-text : Measures 3 guard-text-kinds.ps ℕ
-μ-guard-text κs a = a .1 .1 .0 * 1024 + 1
+μ-guard-text κs a = a .1 .1 .0 * 3 + 1
 
 abbrev μ-repeated-guard : Measures 3 repeated-guard-kinds.ps ℕ
-μ-repeated-guard κs a = a .1 .1 .0 * 1024 + (a .1 .1 .1 .0 + 2)
+μ-repeated-guard κs a = a .1 .1 .0 * 3 + 2
 
 abbrev bare-guard-at : ℕ → In 3 bare-guard-kinds.ps
 bare-guard-at t =
@@ -73,7 +73,7 @@ abbrev text-callees : ℕ → guard-text-lts.Claims
 text-callees t = (flag-of-reads.Asked, flag-of-reads.Learnt, bare-of-reads.Asked, bare-of-reads.Learnt, bare-guard-below t, bare-guard.Post)
 
 abbrev copies-callees : ℕ → repeated-guard-lts.Claims
-copies-callees t = (guard-text-below t, guard-text.Post, copy-digits-reads.Asked, copy-digits-reads.Learnt, repeated-guard-below t, repeated-guard.Post, join-guards-reads.Asked, join-guards-reads.Learnt)
+copies-callees t = (copy-number-reads.Asked, copy-number-reads.Learnt, guard-text-below t, guard-text.Post, join-guards-reads.Asked, join-guards-reads.Learnt)
 
 abbrev callees : ℕ → bare-guard-lts.Claims
 callees t = (read-reads.Asked, read-reads.Learnt, delay-parts-reads.Asked, delay-parts-reads.Learnt, guard-text-below t, guard-text.Post, join-guards-reads.Asked, join-guards-reads.Learnt, put-condition-reads.Asked, put-condition-reads.Learnt, made-of-copies-reads.Asked, made-of-copies-reads.Learnt, copies-block-reads.Asked, copies-block-reads.Learnt, repeated-guard-below t, repeated-guard.Post)
@@ -160,40 +160,41 @@ guard-text-same-length t c = search needs
 guard-text-returns-2 : (t : ℕ) → guard-text-lts.Need-returns-2 (text-callees t) (guard-text-at t) guard-text.Post
 guard-text-returns-2 t c = search bare-guarded
 
-repeated-guard-guard-text-requires : (t : ℕ) → repeated-guard-lts.Need-guard-text-requires (copies-callees t) (repeated-guard-at t) repeated-guard.Post
-repeated-guard-guard-text-requires t c κs = (search only-below, (search only-numbered, search needs, search only-room))
+abbrev repeated-guard-Inv-loop : repeated-guard-lts.InvT-loop
+repeated-guard-Inv-loop t outline n k i work₀ at middle₀ left₀ work middle left = Joining t n k i work₀ at work middle left
 
-repeated-guard-same-length : (t : ℕ) → repeated-guard-lts.Need-same-length (copies-callees t) (repeated-guard-at t) repeated-guard.Post
+abbrev repeated-guard-μ-loop : repeated-guard-lts.MeasureT-loop
+repeated-guard-μ-loop t outline n k i work₀ at middle₀ left₀ work middle left = left
+
+repeated-guard-add-left : (t : ℕ) → repeated-guard-lts.Need-add-left (copies-callees t) (repeated-guard-at t) repeated-guard.Post repeated-guard-Inv-loop repeated-guard-μ-loop
+repeated-guard-add-left t c = search needs
+
+repeated-guard-loop-holds : (t : ℕ) → repeated-guard-lts.Need-loop-holds (copies-callees t) (repeated-guard-at t) repeated-guard.Post repeated-guard-Inv-loop repeated-guard-μ-loop
+repeated-guard-loop-holds t c = search joining-begins
+
+repeated-guard-sub-left : (t : ℕ) → repeated-guard-lts.Need-sub-left (copies-callees t) (repeated-guard-at t) repeated-guard.Post repeated-guard-Inv-loop repeated-guard-μ-loop
+repeated-guard-sub-left t c = search needs
+
+repeated-guard-copy-number-requires : (t : ℕ) → repeated-guard-lts.Need-copy-number-requires (copies-callees t) (repeated-guard-at t) repeated-guard.Post repeated-guard-Inv-loop repeated-guard-μ-loop
+repeated-guard-copy-number-requires t c κs = (search copy-inside, search copy-some, search copy-few)
+
+repeated-guard-guard-text-requires : (t : ℕ) → repeated-guard-lts.Need-guard-text-requires (copies-callees t) (repeated-guard-at t) repeated-guard.Post repeated-guard-Inv-loop repeated-guard-μ-loop
+repeated-guard-guard-text-requires t c κs = (search copy-below, (search copy-numbered, search needs, search copy-room))
+
+repeated-guard-join-guards-requires : (t : ℕ) → repeated-guard-lts.Need-join-guards-requires (copies-callees t) (repeated-guard-at t) repeated-guard.Post repeated-guard-Inv-loop repeated-guard-μ-loop
+repeated-guard-join-guards-requires t c κs = search copy-join-room
+
+repeated-guard-loop-less : (t : ℕ) → repeated-guard-lts.Need-loop-less (copies-callees t) (repeated-guard-at t) repeated-guard.Post repeated-guard-Inv-loop repeated-guard-μ-loop
+repeated-guard-loop-less t c = search needs
+
+repeated-guard-loop-again : (t : ℕ) → repeated-guard-lts.Need-loop-again (copies-callees t) (repeated-guard-at t) repeated-guard.Post repeated-guard-Inv-loop repeated-guard-μ-loop
+repeated-guard-loop-again t c = search joining-on
+
+repeated-guard-same-length : (t : ℕ) → repeated-guard-lts.Need-same-length (copies-callees t) (repeated-guard-at t) repeated-guard.Post repeated-guard-Inv-loop repeated-guard-μ-loop
 repeated-guard-same-length t c = search needs
 
-repeated-guard-returns : (t : ℕ) → repeated-guard-lts.Need-returns (copies-callees t) (repeated-guard-at t) repeated-guard.Post
-repeated-guard-returns t c = search only-guarded
-
-repeated-guard-copy-digits-requires : (t : ℕ) → repeated-guard-lts.Need-copy-digits-requires (copies-callees t) (repeated-guard-at t) repeated-guard.Post
-repeated-guard-copy-digits-requires t c κs = (search copy-inside, search copy-some)
-
-repeated-guard-sub-repeated-guard : (t : ℕ) → repeated-guard-lts.Need-sub-repeated-guard (copies-callees t) (repeated-guard-at t) repeated-guard.Post
-repeated-guard-sub-repeated-guard t c = search needs
-
-repeated-guard-repeated-guard-requires : (t : ℕ) → repeated-guard-lts.Need-repeated-guard-requires (copies-callees t) (repeated-guard-at t) repeated-guard.Post
-repeated-guard-repeated-guard-requires t c κs = (search earlier-below, (search earlier-numbered, search needs, search earlier-room))
-
-repeated-guard-guard-text-requires-2 : (t : ℕ) → repeated-guard-lts.Need-guard-text-requires-2 (copies-callees t) (repeated-guard-at t) repeated-guard.Post
-repeated-guard-guard-text-requires-2 t c κs = (search only-below, (search last-numbered, search needs, search last-room))
-
-repeated-guard-join-guards-requires : (t : ℕ) → repeated-guard-lts.Need-join-guards-requires (copies-callees t) (repeated-guard-at t) repeated-guard.Post
-repeated-guard-join-guards-requires t c κs =
-    let g = c .before .before .before in
-    let r = g .before .before .before .before in
-    let a = r .before .before in
-    let p = a .before .before .before .before .before .pre .1 in
-    copies-join-room _ _ (p .0) (p .1) (p .2) (a .before .if1 .left) (a .copy-digits .ensures) (r .repeated-guard .ensures) (g .guard-text2 .ensures)
-
-repeated-guard-same-length-2 : (t : ℕ) → repeated-guard-lts.Need-same-length-2 (copies-callees t) (repeated-guard-at t) repeated-guard.Post
-repeated-guard-same-length-2 t c = search needs
-
-repeated-guard-returns-2 : (t : ℕ) → repeated-guard-lts.Need-returns-2 (copies-callees t) (repeated-guard-at t) repeated-guard.Post
-repeated-guard-returns-2 t c = search copies-guarded
+repeated-guard-returns : (t : ℕ) → repeated-guard-lts.Need-returns (copies-callees t) (repeated-guard-at t) repeated-guard.Post repeated-guard-Inv-loop repeated-guard-μ-loop
+repeated-guard-returns t c = search joining-ends
 
 pub +bare-guard+guard-text+repeated-guard-spec : {M : Type 1} → statement M
 +bare-guard+guard-text+repeated-guard-spec =
@@ -230,13 +231,15 @@ pub +bare-guard+guard-text+repeated-guard-spec : {M : Type 1} → statement M
     λ t. repeated-guard-lts.spec (copies-callees t)
     (repeated-guard-at t)
     repeated-guard.Post
+    repeated-guard-Inv-loop
+    repeated-guard-μ-loop
+    (repeated-guard-add-left t)
+    (repeated-guard-loop-holds t)
+    (repeated-guard-sub-left t)
+    (repeated-guard-copy-number-requires t)
     (repeated-guard-guard-text-requires t)
+    (repeated-guard-join-guards-requires t)
+    (repeated-guard-loop-less t)
+    (repeated-guard-loop-again t)
     (repeated-guard-same-length t)
     (repeated-guard-returns t)
-    (repeated-guard-copy-digits-requires t)
-    (repeated-guard-sub-repeated-guard t)
-    (repeated-guard-repeated-guard-requires t)
-    (repeated-guard-guard-text-requires-2 t)
-    (repeated-guard-join-guards-requires t)
-    (repeated-guard-same-length-2 t)
-    (repeated-guard-returns-2 t)

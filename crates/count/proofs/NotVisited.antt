@@ -138,6 +138,6 @@ module _ (t : List ℕ) (n room d : ℕ) (S : Countable t n room d) (h : d ≤ 2
           at-a-run k (eqb-true _ _ (not-false _ (rw (k, z) at e))) ∙ rw (k, z) refl
 
 -- The same, of words that the code has read.
-pub unvisited-done : (t : List ℕ) (n room d : ℕ) {v : Node} {b : Bool} {r : Walked} → Countable t n room d → d ≤ 256 → v ≡ node-at t n
+pub not-visited-done : (t : List ℕ) (n room d : ℕ) {v : Node} {b : Bool} {r : Walked} → Countable t n room d → d ≤ 256 → v ≡ node-at t n
     → (v .kind ≡ 2 → ⊥) → (v .kind ≡ 6 → ⊥) → b ≡ is-repeated v → b ≡ false → r ≡ unvisited room n v (node-at t (v .p)) → r ≡ walk room d (tree-at t n)
-unvisited-done t n room d S h w f g e q z = rw w at z ∙ sym (by-words t n room d S h (rw w at f) (rw w at g) (rw w at (sym e ∙ q)))
+not-visited-done t n room d S h w f g e q z = rw w at z ∙ sym (by-words t n room d S h (rw w at f) (rw w at g) (rw w at (sym e ∙ q)))

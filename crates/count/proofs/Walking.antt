@@ -1,7 +1,7 @@
 -- The walk at a node from the answers below it, as the recursive code meets them; and what an answer that counts tells: its
 -- counts are small and stand for an expansion that is not empty.
 use mathlib.Core.Path.{_≡_, refl, sym, ap, _∙_}
-use mathlib.Core.Bool.{Bool, true, not}
+use mathlib.Core.Bool.{Bool, true, false, not}
 use mathlib.Core.List.{List}
 use Prim.Native.Nat.{ℕ, zero, suc, _+_, _*_, _≤_, _<_}
 use native.Mathlib.Omega.{arith}
@@ -9,7 +9,7 @@ use native.Mathlib.Decide.{ℕ-discrete}
 use lib.Dec.{eqb, ltb}
 use lib.ListN.{length}
 use borrow.Author.Tests.{eqb-true, eqb-false, eq-eqb, ne-eqb, lt-ltb, not-true}
-use Rattle.words.specs.Choice.{pick, pick-true}
+use Rattle.words.specs.Choice.{pick, pick-true, pick-false}
 use Rattle.meaning.specs.Tree.{finite, Seq, delay, consec, node-at, unlimited, max-of, tree-at, nodes}
 use Rattle.meaning.specs.Alternative.{consec-finite, guard-each, expand}
 use Rattle.meaning.specs.Refusals.{plain, counts, limited, and-then, deep-enough, walk-in, walk}
@@ -19,14 +19,14 @@ use Rattle.meaning.specs.declared.Counts.{Counts}
 use Rattle.meaning.specs.declared.Walked.{Walked}
 use Rattle.meaning.specs.declared.Walked.the-variants.{Counted, Refused}
 use Rattle.meaning.proofs.Nodes.{number-of, at-delay, at-throughout}
-use Rattle.words.proofs.Taken.{both-hold}
+use Rattle.words.proofs.Taken.{both-hold, false-is-not-true}
 use Rattle.meaning.proofs.Ranges.{finite-max, a-formed-tree-is-ranged}
 use Rattle.meaning.proofs.Walks.{a-walked-tree-is-walkable, the-walk-counts-the-expansion, a-walkable-tree-is-bounded}
 use Rattle.meaning.proofs.Flags.{alternatives-are-led, a-walkable-tree-has-alternatives}
 use Rattle.count.specs.Capped.{Small, guarded-each}
-use Rattle.count.specs.Nodes.{Countable, Unvisited, limit, delay-counts, consec-counts, repeated, covered, is-repeated}
+use Rattle.count.specs.Nodes.{Countable, Unvisited, limit, delay-counts, consec-counts, repeated, covered, is-repeated, visits-one, only-operand, unvisited}
 use Rattle.count.proofs.Stands.{Stands, counts-stand, limit-stands, fixed-stands, at-least-stands, consec-stands, guarded-each-stands}
-use Rattle.count.proofs.NotVisited.{not-too-deep, consec-at}
+use Rattle.count.proofs.NotVisited.{not-too-deep, consec-at, not-visited-done}
 
 -- An answer that counts.
 module _ (room d : ℕ) (s : Seq) {r : Walked} {c : Counts} (e : r ≡ walk room d s) (q : r ≡ Counted c) where
@@ -171,16 +171,16 @@ module _ {t : List ℕ} {n room d : ℕ} {v : Node} (S : Countable t n room d) (
   throughout-walk k = rw w (at-a-throughout t n room d S h (rw w at k))
 
   -- A refusal of its operand is the answer, then its own.
-  pub covered-operand-refused : {number place : ℕ} {x : Walked} → v .kind ≡ 6 → x ≡ walk room (d + 1) (tree-at t (v .q)) → x ≡ Refused number place → x ≡ walk room d (tree-at t n)
+  covered-operand-refused : {number place : ℕ} {x : Walked} → v .kind ≡ 6 → x ≡ walk room (d + 1) (tree-at t (v .q)) → x ≡ Refused number place → x ≡ walk room d (tree-at t n)
   unfolding and-then
   covered-operand-refused k e q = q ∙ sym (throughout-walk k ∙ rw (sym e ∙ q) refl)
 
-  pub covered-done : {s : Counts} {x z : Walked} → v .kind ≡ 6 → x ≡ walk room (d + 1) (tree-at t (v .q)) → x ≡ Counted s → z ≡ covered room n s → z ≡ walk room d (tree-at t n)
+  throughout-done : {s : Counts} {x z : Walked} → v .kind ≡ 6 → x ≡ walk room (d + 1) (tree-at t (v .q)) → x ≡ Counted s → z ≡ covered room n s → z ≡ walk room d (tree-at t n)
   unfolding and-then
-  covered-done k e q u = u ∙ covered-decided t n room d S h v w k e q ∙ sym (throughout-walk k ∙ rw (sym e ∙ q) refl)
+  throughout-done k e q u = u ∙ covered-decided t n room d S h v w k e q ∙ sym (throughout-walk k ∙ rw (sym e ∙ q) refl)
 
   -- A finite [*] but [*0].
-  pub repeated-kind : {b : Bool} → b ≡ is-repeated v → b ≡ true → v .kind ≡ 3
+  repeated-kind : {b : Bool} → b ≡ is-repeated v → b ≡ true → v .kind ≡ 3
   unfolding is-repeated
   repeated-kind e q = eqb-true _ _ (both-hold (eqb (v .kind) 3) (sym e ∙ q) .0)
 
@@ -198,18 +198,17 @@ module _ {t : List ℕ} {n room d : ℕ} {v : Node} (S : Countable t n room d) (
       let (some, ends) = repeated-max e q in rw w (at-a-repetition t n room d S h (rw w at (repeated-kind e q)) (rw w at some) (rw w at ends))
 
   -- A refusal of its operand is the answer, then its own.
-  pub repeated-operand-refused : {number place : ℕ} {b : Bool} {x : Walked} → b ≡ is-repeated v → b ≡ true → x ≡ walk room (d + 1) (tree-at t (v .p)) → x ≡ Refused number place
+  repeated-operand-refused : {number place : ℕ} {b : Bool} {x : Walked} → b ≡ is-repeated v → b ≡ true → x ≡ walk room (d + 1) (tree-at t (v .p)) → x ≡ Refused number place
       → x ≡ walk room d (tree-at t n)
   unfolding and-then
   repeated-operand-refused p p′ e q = q ∙ sym (repetition-walk p p′ ∙ rw (sym e ∙ q) refl)
 
-  pub repeated-done : {b : Bool} {s : Counts} {x z : Walked} → b ≡ is-repeated v → b ≡ true → x ≡ walk room (d + 1) (tree-at t (v .p)) → x ≡ Counted s
+  repetition-done : {b : Bool} {s : Counts} {x z : Walked} → b ≡ is-repeated v → b ≡ true → x ≡ walk room (d + 1) (tree-at t (v .p)) → x ≡ Counted s
       → z ≡ repeated room n v s → z ≡ walk room d (tree-at t n)
   unfolding and-then
-  repeated-done p p′ e q u =
+  repetition-done p p′ e q u =
       u ∙ repeated-decided t n room d S h v w (repeated-kind p p′) (repeated-max p p′ .0) e q ∙ sym (repetition-walk p p′ ∙ rw (sym e ∙ q) refl)
 
-  -- The operands may be visited: u is the measure at entry.
   words : WellFormed n v
   words = rw w (S .formed .each n (S .inside))
 
@@ -220,10 +219,10 @@ module _ {t : List ℕ} {n room d : ℕ} {v : Node} (S : Countable t n room d) (
   pub right-lower : {u : ℕ} → n ≡ u → v .kind ≡ 2 → v .q < u
   right-lower e k = omega (arith, words .delay-right k)
 
-  pub covered-lower : {u : ℕ} → n ≡ u → v .kind ≡ 6 → v .q < u
+  covered-lower : {u : ℕ} → n ≡ u → v .kind ≡ 6 → v .q < u
   covered-lower e k = omega (arith, words .throughout-under k)
 
-  pub repeated-lower : {u : ℕ} {b : Bool} → n ≡ u → b ≡ is-repeated v → b ≡ true → v .p < u
+  repeated-lower : {u : ℕ} {b : Bool} → n ≡ u → b ≡ is-repeated v → b ≡ true → v .p < u
   repeated-lower e p q = omega (arith, words .consec-under (repeated-kind p q))
 
   -- .. and one deeper, which 4 will look at.
@@ -236,24 +235,79 @@ module _ {t : List ℕ} {n room d : ℕ} {v : Node} (S : Countable t n room d) (
   pub right-countable : v .kind ≡ 2 → Countable t (v .q) room (d + 1)
   right-countable k = lower-countable _ (words .delay-right k)
 
-  pub covered-countable : v .kind ≡ 6 → Countable t (v .q) room (d + 1)
+  covered-countable : v .kind ≡ 6 → Countable t (v .q) room (d + 1)
   covered-countable k = lower-countable _ (words .throughout-under k)
 
-  pub repeated-countable : {b : Bool} → b ≡ is-repeated v → b ≡ true → Countable t (v .p) room (d + 1)
+  repeated-countable : {b : Bool} → b ≡ is-repeated v → b ≡ true → Countable t (v .p) room (d + 1)
   repeated-countable p q = lower-countable _ (words .consec-under (repeated-kind p q))
 
   -- The ranges are in order, so that what the code subtracts is there.
   pub delay-ranged : v .kind ≡ 2 → v .min ≤ v .max
   delay-ranged k = words .delay-range k
 
-  pub repeated-ranged : {b : Bool} → b ≡ is-repeated v → b ≡ true → v .min ≤ v .max
-  repeated-ranged p q = words .consec-range (repeated-kind p q)
+  -- ---- the kinds of which one operand is visited: m is the operand, x the answer below it
 
-  -- What is left for the kinds whose operand is not visited.
-  pub not-visited : (v .kind ≡ 2 → ⊥) → (v .kind ≡ 6 → ⊥) → Unvisited t n v
-  not-visited f g = record { formed = S .formed; inside = S .inside; words = w; no-delay = f; no-throughout = g }
+  module _ {b : Bool} (p : b ≡ visits-one v) where
+    module _ (y : b ≡ true) where
+      -- It is a throughout, or such a [*].
+      still-repeated : (v .kind ≡ 6 → ⊥) → is-repeated v ≡ true
+      unfolding visits-one
+      still-repeated f = sym (pick-false _ _ (ne-eqb (v .kind) 6 f)) ∙ sym p ∙ y
+
+      pub repeated-ranged : (v .kind ≡ 6 → ⊥) → v .min ≤ v .max
+      repeated-ranged f = words .consec-range (repeated-kind refl (still-repeated f))
+
+      module _ {m : ℕ} (o : m ≡ only-operand v) where
+        covers : v .kind ≡ 6 → m ≡ v .q
+        unfolding only-operand
+        covers k = o ∙ pick-true _ _ (eq-eqb (v .kind) 6 k)
+
+        copies : (v .kind ≡ 6 → ⊥) → m ≡ v .p
+        unfolding only-operand
+        copies f = o ∙ pick-false _ _ (ne-eqb (v .kind) 6 f)
+
+        pub one-lower : {u : ℕ} → n ≡ u → m < u
+        one-lower e = elim (ℕ-discrete (v .kind) 6) [
+          | yes k ↦ rw (covers k) (covered-lower e k)
+          | no f ↦ rw (copies f) (repeated-lower e refl (still-repeated f))
+        ]
+
+        pub one-countable : Countable t m room (d + 1)
+        one-countable = elim (ℕ-discrete (v .kind) 6) [
+          | yes k ↦ rw (covers k) (covered-countable k)
+          | no f ↦ rw (copies f) (repeated-countable refl (still-repeated f))
+        ]
+
+        module _ {x : Walked} (e : x ≡ walk room (d + 1) (tree-at t m)) where
+          pub one-refused : {number place : ℕ} → x ≡ Refused number place → x ≡ walk room d (tree-at t n)
+          one-refused q = elim (ℕ-discrete (v .kind) 6) [
+            | yes k ↦ covered-operand-refused k (rw (covers k) at e) q
+            | no f ↦ repeated-operand-refused refl (still-repeated f) (rw (copies f) at e) q
+          ]
+
+          pub covered-done : {s : Counts} {z : Walked} → x ≡ Counted s → v .kind ≡ 6 → z ≡ covered room n s → z ≡ walk room d (tree-at t n)
+          covered-done q k u = throughout-done k (rw (covers k) at e) q u
+
+          pub repeated-done : {s : Counts} {z : Walked} → x ≡ Counted s → (v .kind ≡ 6 → ⊥) → z ≡ repeated room n v s → z ≡ walk room d (tree-at t n)
+          repeated-done q f u = repetition-done refl (still-repeated f) (rw (copies f) at e) q u
+
+    -- What is left for the kinds whose operand is not visited.
+    module _ (y : b ≡ false) where
+      pub no-throughout : v .kind ≡ 6 → ⊥
+      unfolding visits-one
+      no-throughout k = false-is-not-true (sym y ∙ p ∙ pick-true _ _ (eq-eqb (v .kind) 6 k))
+
+      pub not-repeated : is-repeated v ≡ false
+      unfolding visits-one
+      not-repeated = sym (pick-false _ _ (ne-eqb (v .kind) 6 no-throughout)) ∙ sym p ∙ y
+
+      pub not-visited : (v .kind ≡ 2 → ⊥) → Unvisited t n v
+      not-visited f = record { formed = S .formed; inside = S .inside; words = w; no-delay = f; no-throughout = no-throughout }
+
+      pub unvisited-done : {r : Walked} → (v .kind ≡ 2 → ⊥) → r ≡ unvisited room n v (node-at t (v .p)) → r ≡ walk room d (tree-at t n)
+      unvisited-done f z = not-visited-done t n room d S h w f no-throughout refl not-repeated z
 
 -- For the operand of any kind that is visited.
-pub ruleset operand-lower = (left-lower, right-lower, covered-lower, repeated-lower)
+pub ruleset operand-lower = (left-lower, right-lower, one-lower)
 
-pub ruleset operand-countable = (left-countable, right-countable, covered-countable, repeated-countable)
+pub ruleset operand-countable = (left-countable, right-countable, one-countable)

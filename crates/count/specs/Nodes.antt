@@ -58,6 +58,14 @@ over-node room n v under =
 unfoldable pub is-repeated : Node → Bool
 is-repeated v = pick (eqb (v .kind) 3) (pick (not (eqb (v .max) 0)) (not (eqb (v .max) unlimited)) false) false
 
+-- Whether v has one operand that is visited: that of a throughout, or of such a [*].
+unfoldable pub visits-one : Node → Bool
+visits-one v = pick (eqb (v .kind) 6) true (is-repeated v)
+
+-- That operand.
+unfoldable pub only-operand : Node → ℕ
+only-operand v = pick (eqb (v .kind) 6) (v .q) (v .p)
+
 -- 01: "operands of kinds 4, 5, [*0] and [*m:$] are not visited"; an atom has none, and 8 comes before those of a within.
 unfoldable pub unvisited : ℕ → ℕ → Node → Node → Walked
 unvisited room n v under =

@@ -10,7 +10,7 @@ ghost use Rattle.meaning.specs.Tree.{below, node-at, tree-at, root};
 ghost use Rattle.meaning.specs.Refusals.{walk, walk-root, room-of};
 ghost use Rattle.meaning.specs.Lowerable.{FormedTable};
 ghost use Rattle.count.specs.Capped.{nothing, capped, Small, product, sum, times, copied, summed, with-empty, not-plain, guarded-each};
-ghost use Rattle.count.specs.Nodes.{Countable, Unvisited, limit, delay-counts, consec-counts, repeated, covered, over-node, is-repeated, unvisited, fits-within, paired};
+ghost use Rattle.count.specs.Nodes.{Countable, Unvisited, limit, delay-counts, consec-counts, repeated, covered, over-node, is-repeated, visits-one, only-operand, unvisited, fits-within, paired};
 
 // No alternative; one of a Bool term; one of any other term.
 const NOTHING: meaning::Counts = meaning::Counts {
@@ -274,6 +274,26 @@ fn is_repeated(v: meaning::Node) -> bool
     )
 }
 
+// Whether v has one operand that is visited: that of a throughout, or of such a [*].
+fn visits_one(v: meaning::Node) -> bool
+    ensures { λ r. ⌜ r ≡ visits-one v ⌝ }
+{
+    if v.kind == 6 {
+        return true;
+    }
+    is_repeated(v)
+}
+
+// That operand.
+fn only_operand(v: meaning::Node) -> u32
+    ensures { λ r. ⌜ r ≡ only-operand v ⌝ }
+{
+    if v.kind == 6 {
+        return v.q;
+    }
+    v.p
+}
+
 // 8, and the kinds whose operand is not visited: atom, goto, nonconsecutive, [*0] and [*m:$].
 fn unvisited(t: &[u32], n: u32, room: u32, v: meaning::Node) -> meaning::Walked
     requires { ⌜ Unvisited (now t) n v ⌝ }
@@ -311,18 +331,14 @@ pub fn walked(t: &[u32], n: u32, room: u32, depth: u32) -> meaning::Walked
         };
         return delayed(room, n, v, l, r);
     }
-    if v.kind == 6 {
-        let under = walked(t, v.q, room, depth + 1);
+    if visits_one(v) {
+        let under = walked(t, only_operand(v), room, depth + 1);
         let meaning::Walked::Counted(s) = under else {
             return under;
         };
-        return covered(room, n, s);
-    }
-    if is_repeated(v) {
-        let under = walked(t, v.p, room, depth + 1);
-        let meaning::Walked::Counted(s) = under else {
-            return under;
-        };
+        if v.kind == 6 {
+            return covered(room, n, s);
+        }
         return repeated(room, n, v, s);
     }
     unvisited(t, n, room, v)

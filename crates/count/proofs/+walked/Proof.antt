@@ -1,7 +1,6 @@
 -- The recursion on the node number: each return is the walk's answer from the answers below the node.
 use borrow.Author.Needs.{needs}
-use Rattle.count.proofs.NotVisited.{unvisited-done}
-use Rattle.count.proofs.Walking.{answer-is-small, too-deep, node-inside, node-few, operand-lower, operand-countable, left-refused, right-refused, delay-ranged, delay-done, covered-operand-refused, covered-done, repeated-operand-refused, repeated-ranged, repeated-done, not-visited}
+use Rattle.count.proofs.Walking.{answer-is-small, too-deep, node-inside, node-few, operand-lower, operand-countable, left-refused, right-refused, delay-ranged, delay-done, one-refused, covered-done, repeated-ranged, repeated-done, not-visited, unvisited-done}
 use Prim.Native.Nat.{ℕ, _<_}
 use borrow.Fn.Kinds.{In}
 use borrow.Fn.PlainCycle.{Measures, is, falls, and}
@@ -10,9 +9,10 @@ use Rattle.count.proofs.walked.Kinds as walked-kinds
 use Rattle.count.proofs.+walked.Lts-walked as walked-lts
 use Rattle.count.proofs.covered.Reads as covered-reads
 use Rattle.count.proofs.delayed.Reads as delayed-reads
-use Rattle.count.proofs.is_repeated.Reads as is-repeated-reads
+use Rattle.count.proofs.only_operand.Reads as only-operand-reads
 use Rattle.count.proofs.repeated.Reads as repeated-reads
 use Rattle.count.proofs.unvisited.Reads as unvisited-reads
+use Rattle.count.proofs.visits_one.Reads as visits-one-reads
 use Rattle.tree.proofs.read.Reads as read-reads
 use Rattle.count.proofs.+walked.{statement}
 use Rattle.count.proofs.+walked.Tie.{close}
@@ -27,7 +27,7 @@ abbrev walked-below : ℕ → In 1 walked-kinds.ps
 walked-below t = and 1 walked-kinds.ps (falls 1 walked-kinds.ps _<_ μ-walked t) walked.Pre
 
 abbrev callees : ℕ → walked-lts.Claims
-callees t = (read-reads.Asked, read-reads.Learnt, walked-below t, walked.Post, delayed-reads.Asked, delayed-reads.Learnt, covered-reads.Asked, covered-reads.Learnt, is-repeated-reads.Asked, is-repeated-reads.Learnt, repeated-reads.Asked, repeated-reads.Learnt, unvisited-reads.Asked, unvisited-reads.Learnt)
+callees t = (read-reads.Asked, read-reads.Learnt, walked-below t, walked.Post, delayed-reads.Asked, delayed-reads.Learnt, visits-one-reads.Asked, visits-one-reads.Learnt, only-operand-reads.Asked, only-operand-reads.Learnt, covered-reads.Asked, covered-reads.Learnt, repeated-reads.Asked, repeated-reads.Learnt, unvisited-reads.Asked, unvisited-reads.Learnt)
 
 walked-returns : (t : ℕ) → walked-lts.Need-returns (callees t) (walked-at t) walked.Post
 walked-returns t c = search too-deep
@@ -71,6 +71,12 @@ walked-delayed-requires t c κs = (search delay-ranged, search answer-is-small, 
 walked-returns-4 : (t : ℕ) → walked-lts.Need-returns-4 (callees t) (walked-at t) walked.Post
 walked-returns-4 t c = search delay-done
 
+walked-visits-one-requires : (t : ℕ) → walked-lts.Need-visits-one-requires (callees t) (walked-at t) walked.Post
+walked-visits-one-requires t c κs = search needs
+
+walked-only-operand-requires : (t : ℕ) → walked-lts.Need-only-operand-requires (callees t) (walked-at t) walked.Post
+walked-only-operand-requires t c κs = search needs
+
 walked-add-walked-3 : (t : ℕ) → walked-lts.Need-add-walked-3 (callees t) (walked-at t) walked.Post
 walked-add-walked-3 t c = search needs
 
@@ -84,7 +90,7 @@ walked-enum-told-3 : (t : ℕ) → walked-lts.Need-enum-told-3 (callees t) (walk
 walked-enum-told-3 t c = search needs
 
 walked-returns-5 : (t : ℕ) → walked-lts.Need-returns-5 (callees t) (walked-at t) walked.Post
-walked-returns-5 t c = search covered-operand-refused
+walked-returns-5 t c = search one-refused
 
 walked-covered-requires : (t : ℕ) → walked-lts.Need-covered-requires (callees t) (walked-at t) walked.Post
 walked-covered-requires t c κs = search answer-is-small
@@ -92,35 +98,17 @@ walked-covered-requires t c κs = search answer-is-small
 walked-returns-6 : (t : ℕ) → walked-lts.Need-returns-6 (callees t) (walked-at t) walked.Post
 walked-returns-6 t c = search covered-done
 
-walked-is-repeated-requires : (t : ℕ) → walked-lts.Need-is-repeated-requires (callees t) (walked-at t) walked.Post
-walked-is-repeated-requires t c κs = search needs
-
-walked-add-walked-4 : (t : ℕ) → walked-lts.Need-add-walked-4 (callees t) (walked-at t) walked.Post
-walked-add-walked-4 t c = search needs
-
-walked-walked-requires-4 : (t : ℕ) → walked-lts.Need-walked-requires-4 (callees t) (walked-at t) walked.Post
-walked-walked-requires-4 t c κs = (search operand-lower, search operand-countable)
-
-walked-enum-known-under-2 : (t : ℕ) → walked-lts.Need-enum-known-under-2 (callees t) (walked-at t) walked.Post
-walked-enum-known-under-2 t c = search needs
-
-walked-enum-told-4 : (t : ℕ) → walked-lts.Need-enum-told-4 (callees t) (walked-at t) walked.Post
-walked-enum-told-4 t c = search needs
-
-walked-returns-7 : (t : ℕ) → walked-lts.Need-returns-7 (callees t) (walked-at t) walked.Post
-walked-returns-7 t c = search repeated-operand-refused
-
 walked-repeated-requires : (t : ℕ) → walked-lts.Need-repeated-requires (callees t) (walked-at t) walked.Post
 walked-repeated-requires t c κs = (search repeated-ranged, search answer-is-small)
 
-walked-returns-8 : (t : ℕ) → walked-lts.Need-returns-8 (callees t) (walked-at t) walked.Post
-walked-returns-8 t c = search repeated-done
+walked-returns-7 : (t : ℕ) → walked-lts.Need-returns-7 (callees t) (walked-at t) walked.Post
+walked-returns-7 t c = search repeated-done
 
 walked-unvisited-requires : (t : ℕ) → walked-lts.Need-unvisited-requires (callees t) (walked-at t) walked.Post
 walked-unvisited-requires t c κs = search not-visited
 
-walked-returns-9 : (t : ℕ) → walked-lts.Need-returns-9 (callees t) (walked-at t) walked.Post
-walked-returns-9 t c = search unvisited-done
+walked-returns-8 : (t : ℕ) → walked-lts.Need-returns-8 (callees t) (walked-at t) walked.Post
+walked-returns-8 t c = search unvisited-done
 
 pub +walked-spec : {M : Type 1} → statement M
 +walked-spec = close μ-walked λ t. walked-lts.spec (callees t)
@@ -140,6 +128,8 @@ pub +walked-spec : {M : Type 1} → statement M
     (walked-returns-3 t)
     (walked-delayed-requires t)
     (walked-returns-4 t)
+    (walked-visits-one-requires t)
+    (walked-only-operand-requires t)
     (walked-add-walked-3 t)
     (walked-walked-requires-3 t)
     (walked-enum-known-under t)
@@ -147,13 +137,7 @@ pub +walked-spec : {M : Type 1} → statement M
     (walked-returns-5 t)
     (walked-covered-requires t)
     (walked-returns-6 t)
-    (walked-is-repeated-requires t)
-    (walked-add-walked-4 t)
-    (walked-walked-requires-4 t)
-    (walked-enum-known-under-2 t)
-    (walked-enum-told-4 t)
-    (walked-returns-7 t)
     (walked-repeated-requires t)
-    (walked-returns-8 t)
+    (walked-returns-7 t)
     (walked-unvisited-requires t)
-    (walked-returns-9 t)
+    (walked-returns-8 t)

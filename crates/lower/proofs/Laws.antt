@@ -237,9 +237,6 @@ module _ (t : List ℕ) (first work : ℕ) (out : List ℕ) {table-is : Table} (
         pub table-is-walked : Walks t work c
         table-is-walked = record { formed = a-checked-table-is-formed t p f; walks = sym e ∙ w }
 
-        pub outline-is-long : (o : List ℕ) → (nodes t ≤ 4096 → nodes t ≤ length o) → nodes t ≤ length o
-        outline-is-long o long = long (a-checked-table-is-formed t p f .few)
-
         pub answers-finished : {out₁ : List ℕ} {r : Lowered} → Finishes t first out r out₁ → Answers t first work out r out₁
         unfolding lower after-nothing after-table
         answers-finished F = record { answers = F .answers ∙ rw (← p, f, ← w, e) refl; holds = F .holds }

@@ -155,6 +155,26 @@ fn lowered_root(
     lowered_choice(tree, outline, n, c.alternatives, first, work, out)
 }
 
+// The same with an outline of its own, which stands on the stack only from here on, when the walk is done. Few trees need as many
+// words as a tree may have nodes, and clearing these takes longer than lowering a small one.
+fn outlined_root(
+    tree: &[u32],
+    c: meaning::Counts,
+    first: u32,
+    work: &mut [u32],
+    out: &mut [u32],
+) -> meaning::Lowered
+    requires { ⌜ Walks (now tree) (length (now work)) c ⌝ }
+    ensures { λ r. ⌜ Finishes (now (tree .entry)) first (now (out .entry)) r (now (out .exit)) ⌝ }
+{
+    if tree.len() <= 320 {
+        let mut outline = [0u32; 64];
+        return lowered_root(tree, c, first, &mut outline, work, out);
+    }
+    let mut outline = [0u32; 4096];
+    lowered_root(tree, c, first, &mut outline, work, out)
+}
+
 // 1 to 3, of a table that the checks refuse.
 fn misformed(table: meaning::Table) -> meaning::Lowered
     ensures { λ r. ⌜ r ≡ table-answer table ⌝ }
@@ -176,14 +196,7 @@ fn stopped(walked: meaning::Walked) -> meaning::Lowered
 }
 
 // Every refusal in 01's order, or the listing; work is left as the last alternative stands in it.
-fn lowered(
-    tree: &[u32],
-    first: u32,
-    outline: &mut [u32],
-    work: &mut [u32],
-    out: &mut [u32],
-) -> meaning::Lowered
-    requires { ⌜ (nodes (now tree) ≤ 4096 → nodes (now tree) ≤ length (now outline)) ⌝ }
+fn answered(tree: &[u32], first: u32, work: &mut [u32], out: &mut [u32]) -> meaning::Lowered
     ensures { λ r. ⌜ Answers (now (tree .entry)) first (length (now (work .entry))) (now (out .entry)) r (now (out .exit)) ⌝ }
 {
     let table = tree::checked(tree);
@@ -194,20 +207,7 @@ fn lowered(
     let meaning::Walked::Counted(c) = walked else {
         return stopped(walked);
     };
-    lowered_root(tree, c, first, outline, work, out)
-}
-
-// The same with an outline of its own. Few trees need as many words as a tree may have nodes, and clearing these takes longer than
-// lowering a small one.
-fn answered(tree: &[u32], first: u32, work: &mut [u32], out: &mut [u32]) -> meaning::Lowered
-    ensures { λ r. ⌜ Answers (now (tree .entry)) first (length (now (work .entry))) (now (out .entry)) r (now (out .exit)) ⌝ }
-{
-    if tree.len() <= 320 {
-        let mut outline = [0u32; 64];
-        return lowered(tree, first, &mut outline, work, out);
-    }
-    let mut outline = [0u32; 4096];
-    lowered(tree, first, &mut outline, work, out)
+    outlined_root(tree, c, first, work, out)
 }
 
 // Lowering with registers numbered from `first` on.

@@ -1,9 +1,9 @@
--- `lowered` checks the table, walks the tree and hands up what refuses it.
+-- `answered` checks the table, walks the tree and hands up what refuses it.
 use Rattle.tree.proofs.Checks.{a-checked-table-is-formed}
-use Rattle.lower.proofs.Laws.{answers-misformed, answers-stopped, table-is-walked, outline-is-long, answers-finished}
+use Rattle.lower.proofs.Laws.{answers-misformed, answers-stopped, table-is-walked, answers-finished}
 use borrow.Author.Needs.{needs}
-use Rattle.lower.proofs.lowered.Statement.{statement}
-use Rattle.lower.proofs.lowered.Tie as tie
+use Rattle.lower.proofs.answered.Statement.{statement}
+use Rattle.lower.proofs.answered.Tie as tie
 
 checked-requires : tie.Need-checked-requires
 checked-requires c κs = search needs
@@ -35,8 +35,8 @@ stopped-requires c κs = search needs
 returns-2 : tie.Need-returns-2
 returns-2 c = search answers-stopped
 
-lowered-root-requires : tie.Need-lowered-root-requires
-lowered-root-requires c κs = (search table-is-walked, search outline-is-long)
+outlined-root-requires : tie.Need-outlined-root-requires
+outlined-root-requires c κs = search table-is-walked
 
 same-length : tie.Need-same-length
 same-length c = search needs
@@ -44,14 +44,11 @@ same-length c = search needs
 same-length-2 : tie.Need-same-length-2
 same-length-2 c = search needs
 
-same-length-3 : tie.Need-same-length-3
-same-length-3 c = search needs
-
 returns-3 : tie.Need-returns-3
 returns-3 c = search answers-finished
 
-pub lowered-spec : {M : Type 1} → statement M
-lowered-spec =
+pub answered-spec : {M : Type 1} → statement M
+answered-spec =
     tie.close
     (tie.spec
     checked-requires
@@ -64,8 +61,7 @@ lowered-spec =
     enum-told-3
     stopped-requires
     returns-2
-    lowered-root-requires
+    outlined-root-requires
     same-length
     same-length-2
-    same-length-3
     returns-3)

@@ -1,4 +1,4 @@
-//! Brings three things together: the original's files, which stay where they are; this project's archive; and a plain interpreter in C.
+//! Brings three things together: the original's files, which stay where they are; this project's archive; and two files in C.
 //!
 //! `SVA_SOURCE` is a folder with the original somewhere below it, `SVA_LIB` the folder of `libsva_c.a`. Both are relative to this folder.
 use std::env;
@@ -13,7 +13,7 @@ fn main() {
     let out = PathBuf::from(env::var("OUT_DIR").expect("OUT_DIR"));
     include_original(&folder("SVA_SOURCE", "../../shared/docs/src"), &out);
     link_archive(&folder("SVA_LIB", "../target/staticlib"));
-    compile_interpreter(&out);
+    compile_c(&out);
 }
 
 /// The folder that a variable names, else the default one.
@@ -61,16 +61,19 @@ fn link_archive(library: &Path) {
     println!("cargo:rustc-link-lib=static=sva_c");
 }
 
-/// Compiles and links the interpreter that the benchmark holds the tick against.
-fn compile_interpreter(out: &Path) {
-    println!("cargo:rerun-if-changed=c/interpreter.c");
-    let object = out.join("interpreter.o");
-    let archive = out.join("libinterpreter.a");
+/// Compiles and links the interpreter that the benchmark holds the tick against, and the calls on a small stack.
+fn compile_c(out: &Path) {
+    println!("cargo:rerun-if-changed=../include/sva.h");
+    let archive = out.join("libplain.a");
     let _ = fs::remove_file(&archive);
-    run(Command::new("gcc").args(["-std=c11", "-Wall", "-Wextra", "-O2", "-c", "c/interpreter.c", "-o"]).arg(&object));
-    run(Command::new("ar").arg("rcs").arg(&archive).arg(&object));
+    for name in ["interpreter", "small_stack"] {
+        let object = out.join(format!("{name}.o"));
+        println!("cargo:rerun-if-changed=c/{name}.c");
+        run(Command::new("gcc").args(["-std=c11", "-Wall", "-Wextra", "-O2", "-c", "-o"]).arg(&object).arg(format!("c/{name}.c")));
+        run(Command::new("ar").arg("rcs").arg(&archive).arg(&object));
+    }
     println!("cargo:rustc-link-search=native={}", out.display());
-    println!("cargo:rustc-link-lib=static=interpreter");
+    println!("cargo:rustc-link-lib=static=plain");
 }
 
 /// Runs a command that has to succeed.

@@ -9,7 +9,8 @@
  *   - each pointer is good for as many elements as the length beside it says, is aligned, and is not NULL, also where
  *     the length is 0;
  *   - what it points to is initialised, also where it is only written;
- *   - what a call writes overlaps nothing else that the call is given.
+ *   - what a call writes overlaps nothing else that the call is given;
+ *   - SVA_STACK bytes of stack are free where it calls, what it passes on the stack among them.
  *
  * A tree: five words a node, 1 to 4,096 nodes. Operands have lower numbers than their node, the last node is the root, and
  * every other node is an operand exactly once. Words that a kind does not use are 0. SVA_UNBOUNDED is `$`, as max only.
@@ -46,6 +47,10 @@ extern "C" {
 
 /* `$`, as the max of a delay or of a consecutive repetition. */
 #define SVA_UNBOUNDED UINT32_C(4294967295)
+
+/* The bytes of stack that a call may take: sva_lower by the depth of the tree, the other two far less. Counted over the archive's machine
+ * code, not proved (docs/PROOFS.md). */
+#define SVA_STACK 65536
 
 /* The operation and the argument of a listing's word. */
 #define SVA_OPERATION(word) ((uint32_t)(word) / UINT32_C(16777216))

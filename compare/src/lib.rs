@@ -2,7 +2,7 @@
 //!
 //! `elaborate` compiles the original's files as they are and `original` asks them; `sva` calls this project's archive and looks at every
 //! lent buffer; `rules` decides each refusal anew, by document 01; `trees` makes the trees. The programs: `compare`,
-//! `bench`, `recorded`, `differences`.
+//! `bench`, `recorded`, `differences`, and of the machine's stack `frames` and `deepest`.
 pub mod elaborate;
 pub mod interpreter;
 pub mod limits;
@@ -11,5 +11,6 @@ pub mod original;
 pub mod recorded;
 pub mod rules;
 pub mod sizes;
+pub mod small_stack;
 pub mod sva;
 pub mod trees;

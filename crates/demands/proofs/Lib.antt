@@ -12,5 +12,6 @@ pub mod TreesHaveOneOutcome
 pub mod AlternativesHaveOneOutcome
 pub mod RootsHaveOneOutcome
 pub mod ListingsHaveOneOutcome
+pub mod TextsHaveOneOutcome
 pub mod TheCBoundaryHasOneOutcome
 pub mod CorrectionHasOneOutcome

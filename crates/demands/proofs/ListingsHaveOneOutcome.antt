@@ -1,4 +1,4 @@
--- One outcome: what reads a listing, the tick, the stretch and its reader, and texts and bytes.
+-- One outcome: what reads a listing, the tick, the stretch and its reader.
 use mathlib.Core.Path.{_≡_, sym, ap, _∙_}
 use mathlib.Core.List.{List}
 use Prim.Native.Nat.{ℕ}
@@ -30,12 +30,8 @@ use Rattle.stretch.proofs.Reader.next as reader-next
 use Rattle.stretch.proofs.Reader.assignment as reader-assignment
 use Rattle.stretch.proofs.stretch as stretch
 use Rattle.stretch.proofs.start as start
-use Rattle.text.proofs.text as text
-use Rattle.little_endian.proofs.read as read
-use Rattle.lowered_text.proofs.print as print
-use Rattle.lowered_text.proofs.print_input as print-input
 use Rattle.demands.specs.OneOutcome.{OneOutcomeUpTo, OneOutcome}
-use Rattle.demands.proofs.OneOutcome.{same-result, same-outcome-of-two, same, from-both, by-an-equation, by-writing, by-writing-and-a-bound}
+use Rattle.demands.proofs.OneOutcome.{same-result, same-outcome-of-two, same, from-both, by-an-equation}
 
 -- A tick: the answer is an equation, and what the two slices hold follows from the answer.
 module _ {ws cur atoms next next₁ next₂ stack stack₁ stack₂ : List ℕ} {answer answer′ : Ticked}
@@ -107,16 +103,3 @@ module _ {M : Type 1} (𝓤 : URA M) (H : Heap 𝓤) (A : Atoms 𝓤) (mem : Mem
 
   pub stretch-start-has-one-outcome : OneOutcome 𝓤 start.ended (start.clauses 𝓤 H A mem run)
   stretch-start-has-one-outcome κs a g o o′ = by-an-equation 𝓤
-
-  -- Text, and words from bytes.
-  pub text-has-one-outcome : OneOutcome 𝓤 text.ended (text.clauses 𝓤 H A mem run)
-  text-has-one-outcome κs a g o o′ = by-writing 𝓤 (λ out. (tt, (tt, (out, tt))))
-
-  pub little-endian-read-has-one-outcome : OneOutcome 𝓤 read.ended (read.clauses 𝓤 H A mem run)
-  little-endian-read-has-one-outcome κs a g o o′ = by-writing 𝓤 (λ out. (tt, (out, tt)))
-
-  pub lowered-text-print-has-one-outcome : OneOutcome 𝓤 print.ended (print.clauses 𝓤 H A mem run)
-  lowered-text-print-has-one-outcome κs a g o o′ = by-writing-and-a-bound 𝓤 (λ page. (tt, (page, tt)))
-
-  pub lowered-text-print-input-has-one-outcome : OneOutcome 𝓤 print-input.ended (print-input.clauses 𝓤 H A mem run)
-  lowered-text-print-input-has-one-outcome κs a g o o′ = by-writing-and-a-bound 𝓤 (λ page. (tt, (page, tt)))

@@ -9,7 +9,7 @@ use Rattle.meaning.specs.Refusals.{lowest-failing, formed-node, uses-in, uses, 
 use Rattle.meaning.specs.Lower.{synth-of, words-of, fits, after-walk, after-table, after-nothing, lower}
 use Rattle.text.specs.Text.{bytes, digits, token-text, tag-text, line-start-text, tokens-text, line-text, lines-text, first-line-text, words-listed, answer-text}
 use Rattle.little_endian.specs.Bytes.{words-of-bytes}
-use Rattle.lowered_text.specs.Page.{page-text, input-text}
+use Rattle.lowered_text.specs.Page.{page-text, of-input, input-text}
 
 -- The bytes of words below 256.
 abbrev low-words : List ℕ → List ℕ
@@ -19,14 +19,14 @@ low-words (w ∷ ws) = w ∷ 0 ∷ 0 ∷ 0 ∷ low-words ws
 -- "For the words 1,0,0,0,0, 1,1,0,0,0, 2,0,1,1,1 it prints all of".
 the-example : input-text (low-words (1 ∷ 0 ∷ 0 ∷ 0 ∷ 0 ∷ 1 ∷ 1 ∷ 0 ∷ 0 ∷ 0 ∷ 2 ∷ 0 ∷ 1 ∷ 1 ∷ 1 ∷ []))
     ≡ bytes "ok 1 8 2\nseq 0 = a0 any\nmatch = r0 a1 any and\n"
-unfolding input-text page-text words-of-bytes lower after-nothing table lowest-failing formed-node uses-in uses range-node node-at tree-at after-table walk-root walk walk-in deep-enough limited and-then room-of misplaced first-misplaced after-walk synth-of words-of fits rows row-of deepest deepest-from answer-text words-listed first-line-text lines-text line-text tokens-text line-start-text tag-text token-text digits pick
+unfolding input-text of-input page-text words-of-bytes lower after-nothing table lowest-failing formed-node uses-in uses range-node node-at tree-at after-table walk-root walk walk-in deep-enough limited and-then room-of misplaced first-misplaced after-walk synth-of words-of fits rows row-of deepest deepest-from answer-text words-listed first-line-text lines-text line-text tokens-text line-start-text tag-text token-text digits pick
 the-example = refl
 
 -- A piece of a word, and no node.
 three-bytes : input-text (1 ∷ 0 ∷ 0 ∷ []) ≡ bytes "refused 1 0\n"
-unfolding input-text first-line-text digits pick
+unfolding input-text of-input first-line-text digits pick
 three-bytes = refl
 
 no-byte : input-text [] ≡ bytes "refused 1 0\n"
-unfolding input-text page-text words-of-bytes lower after-nothing table answer-text words-listed first-line-text lines-text digits pick
+unfolding input-text of-input page-text words-of-bytes lower after-nothing table answer-text words-listed first-line-text lines-text digits pick
 no-byte = refl

@@ -18,7 +18,8 @@ fn next_word() -> u32 {
 // The text of what a tree lowers to.
 fn show(tree: &[u32]) {
     let mut page = [0u8; 524416];
-    let end = lowered_text::print(tree, &mut page);
+    let shown = lowered_text::print(tree, &mut page);
+    let end = shown.end;
     io::write_all(STDOUT_FILENO, &page[..end]);
 }
 

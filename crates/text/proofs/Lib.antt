@@ -2,3 +2,4 @@ pub mod Cases
 pub mod Decimal
 pub mod Laws
 pub mod ListingLines
+pub mod Room

@@ -1,4 +1,4 @@
-// The text of an answer, written into a lent byte slice.
+// The text of an answer, written into a lent page of bytes, or that the page has no room for it.
 //
 // Example: for `a ##1 b` it is "ok 1 8 2", "seq 0 = a0 any" and "match = r0 a1 any and", a line each.
 ghost use mathlib.Core.Path.{_≡_};
@@ -8,6 +8,13 @@ ghost use lib.ListN.{length, drop};
 ghost use Rattle.words.specs.Written.{Wrote};
 ghost use Rattle.text.specs.Text.{digits, decimal, decimal-then, token-text, tag-text, line-start-text, tokens-text, line-text};
 ghost use Rattle.text.specs.Text.{lines-text, expression-length, first-line-text, words-listed, answer-text};
+ghost use Rattle.text.specs.Page.{has-room, Prints};
+
+// What became of a text: so many bytes in front of the page, or nothing, for want of room.
+pub enum Printed {
+    Text(usize),
+    NoRoom,
+}
 
 // One byte at the place; the next place.
 fn put(out: &mut [u8], at: usize, byte: u8) -> usize
@@ -206,7 +213,7 @@ fn first_line(answer: meaning::Lowered, out: &mut [u8]) -> usize
 }
 
 // The whole text of an answer, from the front of `out` on; how many bytes it has. The listing stands in front of `listing`.
-pub fn text(answer: meaning::Lowered, listing: &[u32], out: &mut [u8]) -> usize
+fn whole_text(answer: meaning::Lowered, listing: &[u32], out: &mut [u8]) -> usize
     requires { ⌜ (words-listed answer ≤ length (now listing)) × (128 + 32 * words-listed answer ≤ length (now out)) ⌝ }
     ensures { λ end. ⌜ Wrote (now (out .entry)) (now (out .exit)) 0 end (answer-text answer (now (listing .entry))) ⌝ }
 {
@@ -215,4 +222,42 @@ pub fn text(answer: meaning::Lowered, listing: &[u32], out: &mut [u8]) -> usize
         return next;
     };
     lines(&listing[..words], out, next)
+}
+
+// How many words of the output are the listing.
+pub fn words_listed(answer: meaning::Lowered) -> usize
+    ensures { λ r. ⌜ r ≡ words-listed answer ⌝ }
+{
+    match answer {
+        meaning::Lowered::Listing(_, words, _) => words,
+        meaning::Lowered::Refused(_, _) => 0,
+    }
+}
+
+// Whether so many words stand in a listing of such a length, and a page of such a length has room for their text.
+fn has_room(words: usize, listed: usize, page: usize) -> bool
+    ensures { λ r. ⌜ r ≡ has-room words listed page ⌝ }
+{
+    if listed < words {
+        return false;
+    }
+    if page < 128 {
+        return false;
+    }
+    if (page - 128) / 32 < words {
+        return false;
+    }
+    true
+}
+
+// The text of an answer, whose listing stands in front of `listing`, from the front of `page` on.
+pub fn text(answer: meaning::Lowered, listing: &[u32], page: &mut [u8]) -> Printed
+    ensures { λ r. ⌜ Prints answer (now (listing .entry)) (now (page .entry)) r (now (page .exit)) ⌝ }
+{
+    let words = words_listed(answer);
+    if has_room(words, listing.len(), page.len()) {
+        let end = whole_text(answer, listing, page);
+        return Printed::Text(end);
+    }
+    Printed::NoRoom
 }

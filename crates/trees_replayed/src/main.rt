@@ -8,10 +8,8 @@
 //
 // Example: `a ##1 b` and below it `32 8  1 0 0 0 0  1 1 0 0 0  2 0 1 1 1` print the name, `ok 1 8 2`, `seq 0 = a0 any` and
 // `match = r0 a1 any and`, a line each.
-ghost use mathlib.Core.Path.{_≡_};
 ghost use Prim.Native.Nat.{_≤_};
 ghost use lib.ListN.{length};
-ghost use Rattle.text.specs.Text.{«words-listed»};
 
 // What lent words are filled with: not zero, and no word of a listing.
 const FILLED: u32 = 0x5a5a_5a5a;
@@ -106,16 +104,6 @@ fn only(word: u32, words: &[u32], from: usize) -> bool {
     true
 }
 
-// How many words of the output are the listing.
-fn listed(answer: meaning::Lowered) -> usize
-    ensures { λ r. ⌜ r ≡ words-listed answer ⌝ }
-{
-    match answer {
-        meaning::Lowered::Listing(_, words, _) => words,
-        meaning::Lowered::Refused(_, _) => 0,
-    }
-}
-
 // Says what is not as promised: work is all zero, the output is as it was past the words written, and they are as 01 describes.
 fn inspect(words: usize, work: &[u32], out: &[u32])
     requires { ⌜ words ≤ length (now out) ⌝ }
@@ -154,28 +142,25 @@ fn say_counts(answer: meaning::Lowered) {
 }
 
 // The answer's text; of a listing that is too long for the page, its first line.
-fn show(answer: meaning::Lowered, words: usize, out: &[u32], page: &mut [u8])
-    requires { ⌜ (words ≡ words-listed answer) × (words ≤ length (now out)) × (524416 ≤ length (now page)) ⌝ }
-{
-    if 16384 < words {
+fn show(answer: meaning::Lowered, out: &[u32]) {
+    let mut page = [0u8; 524416];
+    let text::Printed::Text(end) = text::text(answer, out, &mut page) else {
         say_counts(answer);
         return;
-    }
-    let end = text::text(answer, out, page);
+    };
     io::write_all(1, &page[..end]);
 }
 
 // A tree's answer, shown once what was lent has been looked at.
 fn lowered(tree: &[u32], work: &mut [u32], out: &mut [u32]) {
     let answer = lower::lower(tree, work, out);
-    let words = listed(answer);
+    let words = text::words_listed(answer);
     if out.len() < words {
         io::write_all(1, b"listing longer than the output\n");
         return;
     }
     inspect(words, work, out);
-    let mut page = [0u8; 524416];
-    show(answer, words, out, &mut page);
+    show(answer, out);
 }
 
 // A case's numbers, with the work and the output that it may ask for. There is room for a node more than a tree may have.

@@ -1,6 +1,6 @@
--- The answer's words fit the output, and their text the page.
-use native.Mathlib.Omega.{arith}
-use Rattle.lowered_text.proofs.Laws.{words-inside, text-few, page-printed, page-inside}
+-- The answer's words fit the output, so that their text has room on the page and stands there.
+use Rattle.text.proofs.Room.{printed-ends-inside}
+use Rattle.lowered_text.proofs.Laws.{page-has-room, page-printed}
 use borrow.Author.Needs.{needs}
 use Rattle.lowered_text.proofs.print.Statement.{statement}
 use Rattle.lowered_text.proofs.print.Tie as tie
@@ -18,17 +18,19 @@ slice-aggregate-text : tie.Need-slice-aggregate-text
 slice-aggregate-text c = search needs
 
 text-requires : tie.Need-text-requires
-text-requires c κs =
-    let l = c .before .before .before .before .lower in (words-inside (l .ensures) (search needs) (search needs), omega (arith, text-few (l .ensures) (search needs) (search needs)))
+text-requires c κs = search needs
 
-same-length : tie.Need-same-length
-same-length c = search needs
+enum-known-end : tie.Need-enum-known-end
+enum-known-end c = search needs
+
+enum-told : tie.Need-enum-told
+enum-told c = search needs
 
 returns : tie.Need-returns
-returns c =
-    let w = c .before .before .text in
-    let l = c .before .before .before .before .before .before .before .lower in
-    (page-printed (l .ensures) (search needs) (search needs) (w .ensures), page-inside (l .ensures) (search needs) (search needs) (search needs) (w .ensures))
+returns c = absurd (search (page-has-room, needs))
+
+returns-2 : tie.Need-returns-2
+returns-2 c = (search (page-printed, needs), search printed-ends-inside)
 
 pub print-spec : {M : Type 1} → statement M
 print-spec =
@@ -39,5 +41,7 @@ print-spec =
     lower-requires
     slice-aggregate-text
     text-requires
-    same-length
-    returns)
+    enum-known-end
+    enum-told
+    returns
+    returns-2)

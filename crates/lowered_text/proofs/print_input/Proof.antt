@@ -7,17 +7,11 @@ use Rattle.lowered_text.proofs.print_input.Tie as tie
 print-refusal-requires : tie.Need-print-refusal-requires
 print-refusal-requires c κs = search needs
 
-same-length : tie.Need-same-length
-same-length c = search needs
-
 returns : tie.Need-returns
 returns c = (search too-long, search needs)
 
 print-refusal-requires-2 : tie.Need-print-refusal-requires-2
 print-refusal-requires-2 c κs = search needs
-
-same-length-2 : tie.Need-same-length-2
-same-length-2 c = search needs
 
 returns-2 : tie.Need-returns-2
 returns-2 c = (search uneven, search needs)
@@ -37,9 +31,6 @@ slice-aggregate-print c = search (words-counted, needs)
 print-requires : tie.Need-print-requires
 print-requires c κs = search needs
 
-same-length-3 : tie.Need-same-length-3
-same-length-3 c = search needs
-
 returns-3 : tie.Need-returns-3
 returns-3 c = (search (tree-printed, words-read, needs), search needs)
 
@@ -48,15 +39,12 @@ print-input-spec =
     tie.close
     (tie.spec
     print-refusal-requires
-    same-length
     returns
     print-refusal-requires-2
-    same-length-2
     returns-2
     slice-aggregate-read
     read-requires
     array-share-prefix-tree
     slice-aggregate-print
     print-requires
-    same-length-3
     returns-3)

@@ -1,46 +1,34 @@
--- The first line, then the lines of the listing.
-use Rattle.text.proofs.ListingLines.{listed-part, lines-room, refusal-text, listing-text}
+-- The whole text where there is room for it, and nothing elsewhere.
 use borrow.Author.Needs.{needs}
+use Rattle.text.proofs.Room.{words-stand, page-suffices, text-printed, nothing-printed}
 use Rattle.text.proofs.text.Statement.{statement}
 use Rattle.text.proofs.text.Tie as tie
 
-first-line-requires : tie.Need-first-line-requires
-first-line-requires c κs = search needs
+words-listed-requires : tie.Need-words-listed-requires
+words-listed-requires c κs = search needs
 
-enum-known-answer : tie.Need-enum-known-answer
-enum-known-answer c = search needs
+has-room-requires : tie.Need-has-room-requires
+has-room-requires c κs = search needs
 
-enum-told : tie.Need-enum-told
-enum-told c = search needs
+whole-text-requires : tie.Need-whole-text-requires
+whole-text-requires c κs = (search words-stand, search page-suffices)
 
 same-length : tie.Need-same-length
 same-length c = search needs
 
 returns : tie.Need-returns
-returns c = search refusal-text
-
-slice-aggregate-lines : tie.Need-slice-aggregate-lines
-slice-aggregate-lines c = search listed-part
-
-lines-requires : tie.Need-lines-requires
-lines-requires c κs = search lines-room
-
-same-length-2 : tie.Need-same-length-2
-same-length-2 c = search needs
+returns c = search text-printed
 
 returns-2 : tie.Need-returns-2
-returns-2 c = search listing-text
+returns-2 c = search nothing-printed
 
 pub text-spec : {M : Type 1} → statement M
 text-spec =
     tie.close
     (tie.spec
-    first-line-requires
-    enum-known-answer
-    enum-told
+    words-listed-requires
+    has-room-requires
+    whole-text-requires
     same-length
     returns
-    slice-aggregate-lines
-    lines-requires
-    same-length-2
     returns-2)

@@ -1,10 +1,23 @@
 -- `show` writes the part of the page that the text takes.
 use mathlib.Core.Path.{sym}
 use lib.Seq.{length-take-le}
-use Rattle.trees_replayed.proofs.Laws.{text-inside}
 use borrow.Author.Needs.{needs}
+use Rattle.text.proofs.Room.{printed-ends-inside}
+use Rattle.trees_replayed.proofs.Laws.{filled}
 use Rattle.trees_replayed.proofs.show.Statement.{statement}
 use Rattle.trees_replayed.proofs.show.Tie as tie
+
+slice-aggregate-text : tie.Need-slice-aggregate-text
+slice-aggregate-text c = filled 524416 0
+
+text-requires : tie.Need-text-requires
+text-requires c κs = tt
+
+enum-known-end : tie.Need-enum-known-end
+enum-known-end c = search needs
+
+enum-told : tie.Need-enum-told
+enum-told c = search needs
 
 say-counts-requires : tie.Need-say-counts-requires
 say-counts-requires c κs = tt
@@ -12,20 +25,14 @@ say-counts-requires c κs = tt
 returns : tie.Need-returns
 returns c = tt
 
-text-requires : tie.Need-text-requires
-text-requires c κs = search needs
-
-slice-reshare-prefix-write-all : tie.Need-slice-reshare-prefix-write-all
-slice-reshare-prefix-write-all c = let asked = c .before .before .before .before .before .before .before .pre in text-inside _ _ (asked .0) (c .before .before .before .before .if1 .left) (asked .2) (c .before .before .text .ensures)
+array-share-prefix-page : tie.Need-array-share-prefix-page
+array-share-prefix-page c = search printed-ends-inside
 
 slice-aggregate-write-all : tie.Need-slice-aggregate-write-all
-slice-aggregate-write-all c = sym (length-take-le _ _ (slice-reshare-prefix-write-all (c .before)))
+slice-aggregate-write-all c = sym (length-take-le _ _ (search printed-ends-inside))
 
 write-all-requires : tie.Need-write-all-requires
 write-all-requires c κs = tt
-
-same-length : tie.Need-same-length
-same-length c = search needs
 
 returns-2 : tie.Need-returns-2
 returns-2 c = tt
@@ -34,11 +41,13 @@ pub show-spec : {M : Type 1} → statement M
 show-spec =
     tie.close
     (tie.spec
+    slice-aggregate-text
+    text-requires
+    enum-known-end
+    enum-told
     say-counts-requires
     returns
-    text-requires
-    slice-reshare-prefix-write-all
+    array-share-prefix-page
     slice-aggregate-write-all
     write-all-requires
-    same-length
     returns-2)

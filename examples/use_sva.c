@@ -1,4 +1,5 @@
-/* Lowers `a ##1 b`, steps it over a few ticks, looks its register up, and has one tree refused. From the repository's root:
+/* Lowers `a ##1 b`, steps it over a few ticks, looks its register up, and has one tree refused. Status 0 where all went as it
+ * should, 1 where a tree was not answered so, 2 where the output failed. From the repository's root:
  *
  *   rt staticlib sva_c && gcc -std=c11 -Wall -Wextra -Iinclude examples/use_sva.c target/staticlib/libsva_c.a -o target/use_sva && target/use_sva
  *
@@ -87,6 +88,11 @@ int main(void)
     size_t length = sva_stretch(l.words, l.length, 0, &start);
     printf("register 0 is driven by %zu words from word %zu on\n", length, start);
     print_words("register 0", &l, start, length);
-    lowered("a ##[2:1] b", EMPTY_RANGE, COUNT(EMPTY_RANGE), &l);
+    if (lowered("a ##[2:1] b", EMPTY_RANGE, COUNT(EMPTY_RANGE), &l))
+        return 1;
+    if (fflush(stdout) != 0 || ferror(stdout)) {
+        perror("use_sva: standard output");
+        return 2;
+    }
     return 0;
 }

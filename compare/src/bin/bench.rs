@@ -6,7 +6,7 @@
 use compare::listing::{self, Counts};
 use compare::original::{self, UNLIMITED};
 use compare::trees::{atom, balanced, consecutive, delay, nonconsecutive, tower, within, Random};
-use compare::{interpreter, rules, sva};
+use compare::{commands, interpreter, rules, sva};
 use std::hint::black_box;
 use std::time::{Duration, Instant};
 
@@ -143,7 +143,7 @@ fn ticking(name: &str, tree: &[u32]) {
     println!("| {name} | {registers} | {count} | {here:.1} | {once:.1} | {every:.1} | {:.2} | {:.2} |", here / once, here / every);
 }
 
-/// All rows, on a stack that is large enough for the original's expressions.
+/// All rows.
 fn rows() {
     let (a, b, c) = (atom(0), atom(1), atom(2));
     let typical = delay(&delay(&a, &consecutive(&b, 1, 3), 1, 1), &c, 2, 2);
@@ -176,6 +176,6 @@ fn rows() {
 }
 
 fn main() {
-    let measured = std::thread::Builder::new().stack_size(1 << 30).spawn(rows);
-    measured.expect("a thread").join().expect("all rows");
+    commands::words("usage: bench [--help]", |words| words.is_empty());
+    commands::run(rows);
 }

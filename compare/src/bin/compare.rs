@@ -8,7 +8,7 @@ use compare::rules::{self, Refusal, ENTRIES, REGISTERS};
 use compare::sizes::Sizes;
 use compare::sva::Sva;
 use compare::trees::Random;
-use compare::{interpreter, limits, trees};
+use compare::{commands, interpreter, limits, trees};
 use std::panic::{catch_unwind, AssertUnwindSafe};
 use std::time::Instant;
 
@@ -283,18 +283,18 @@ impl Tally {
     }
 }
 
-/// The whole comparison, on a stack that is large enough for expressions nested 65,536 deep.
-fn main() {
-    let few = std::env::args().any(|word| word == "--few");
-    std::env::remove_var("VITA_SVA_COLLAPSE");
+/// The whole comparison, or the one of few trees.
+fn compare_all(few: bool) {
     let start = Instant::now();
-    let compared = std::thread::Builder::new().stack_size(1 << 30).spawn(move || {
-        let guards = if few { 0 } else { 8 };
-        let mut comparison = Comparison { sva: Sva { guards }, random: Random(0x0123_4567_89ab_cdef), tally: Tally::default() };
-        comparison.run(few);
-        comparison.tally
-    });
-    let tally = compared.expect("a thread").join().expect("a tally");
-    tally.print();
+    let guards = if few { 0 } else { 8 };
+    let mut comparison = Comparison { sva: Sva { guards }, random: Random(0x0123_4567_89ab_cdef), tally: Tally::default() };
+    comparison.run(few);
+    comparison.tally.print();
     println!("no difference; {:.1} s", start.elapsed().as_secs_f64());
+}
+
+fn main() {
+    let few = !commands::words("usage: compare [--few | --help]", |words| words.is_empty() || words == ["--few"]).is_empty();
+    std::env::remove_var("VITA_SVA_COLLAPSE");
+    commands::run(move || compare_all(few));
 }

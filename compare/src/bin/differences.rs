@@ -1,4 +1,5 @@
 //! What the original does with the smallest trees on which it and document 01 part, or might: a row each, as docs/DIFFERENCES.md has them.
+use compare::commands;
 use compare::listing;
 use compare::original::{self, Outcome, UNLIMITED};
 use compare::rules::{self, REGISTERS};
@@ -90,9 +91,15 @@ fn empties() {
     row("(a[*0:1])[*1:$]", &consecutive(&consecutive(&a, 0, 1), 1, UNLIMITED));
 }
 
-fn main() {
+/// All rows.
+fn rows() {
     println!("| input | the original | here |\n|---|---|---|");
     ranges();
     caps();
     empties();
+}
+
+fn main() {
+    commands::words("usage: differences [--help]", |words| words.is_empty());
+    commands::run(rows);
 }

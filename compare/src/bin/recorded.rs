@@ -1,12 +1,12 @@
 //! Writes the record of `crates/recorded_answers` into a folder: `stdin`, the trees, and `stdout`, what the original answered.
 //!
 //! `stdin` is little-endian words: how many trees; then of each how many words it has, and its words.
+use compare::commands;
 use compare::recorded::{answer, trees};
-use std::path::PathBuf;
+use std::path::{Path, PathBuf};
 
-/// Both files, made on a stack that is large enough for the original's expressions.
-fn write() {
-    let folder = PathBuf::from(std::env::args().nth(1).expect("a folder"));
+/// Both files.
+fn write(folder: &Path) {
     let trees = trees();
     let mut words = vec![trees.len() as u32];
     let mut answers = String::new();
@@ -23,6 +23,6 @@ fn write() {
 }
 
 fn main() {
-    let written = std::thread::Builder::new().stack_size(1 << 30).spawn(write);
-    written.expect("a thread").join().expect("both files");
+    let words = commands::words("usage: recorded FOLDER", |words| words.len() == 1);
+    commands::run(move || write(&PathBuf::from(&words[0])));
 }

@@ -87,20 +87,20 @@ module _ (r at : ℕ) {x y : SeqTerm} (e : x ≡ y) where
   pub prefix-in : {o o′ : List ℕ} {p : ℕ} → Wrote o o′ at p (term-prefix r y) → Wrote o o′ at p (term-prefix r x)
   prefix-in w = rw e w
 
-  pub prefix-room : {ws : List ℕ} {n : ℕ} → term-prefix r y ≡ ws → at + length (term-prefix r x) ≤ n → at + length ws ≤ n
-  prefix-room q h = same-room at (ap (term-prefix r) e ∙ q) h
+  pub prefix-room : {words n : ℕ} → length (term-prefix r y) ≡ words → at + length (term-prefix r x) ≤ n → at + words ≤ n
+  prefix-room q h = omega (arith, h, ap (λ (z : SeqTerm). length (term-prefix r z)) e, q)
 
   pub suffix-in : {o o′ : List ℕ} {p : ℕ} → Wrote o o′ at p (term-suffix r y) → Wrote o o′ at p (term-suffix r x)
   suffix-in w = rw e w
 
-  pub suffix-room : {ws : List ℕ} {n : ℕ} → term-suffix r y ≡ ws → at + length (term-suffix r x) ≤ n → at + length ws ≤ n
-  suffix-room q h = same-room at (ap (term-suffix r) e ∙ q) h
+  pub suffix-room : {words n : ℕ} → length (term-suffix r y) ≡ words → at + length (term-suffix r x) ≤ n → at + words ≤ n
+  suffix-room q h = omega (arith, h, ap (λ (z : SeqTerm). length (term-suffix r z)) e, q)
 
   pub base-in : {o o′ : List ℕ} {p : ℕ} → Wrote o o′ at p (term-base r y) → Wrote o o′ at p (term-base r x)
   base-in w = rw e w
 
-  pub base-room : {ws : List ℕ} {n : ℕ} → term-base r y ≡ ws → at + length (term-base r x) ≤ n → at + length ws ≤ n
-  base-room q h = same-room at (ap (term-base r) e ∙ q) h
+  pub base-room : {words n : ℕ} → length (term-base r y) ≡ words → at + length (term-base r x) ≤ n → at + words ≤ n
+  base-room q h = omega (arith, h, ap (λ (z : SeqTerm). length (term-base r z)) e, q)
 
   pub lead-in : {o o′ : List ℕ} {p : ℕ} → Wrote o o′ at p (lead-text r y) → Wrote o o′ at p (lead-text r x)
   lead-in w = rw e w

@@ -12,8 +12,9 @@ use lib.ListN.{length, getD, set, length-set}
 use lib.Seq.{getD-set-same, getD-set-other}
 use borrow.Author.Tests.{eq-eqb, le-ltb, ltb-false, eqb-true, eqb-false}
 use Rattle.words.specs.Choice.{pick, pick-true, pick-false, pick-case}
-use Rattle.meaning.specs.Listing.{operation, argument}
+use Rattle.meaning.specs.Listing.{operation, argument, row-of}
 use Rattle.meaning.specs.Tick.{negated, anded, ored, stack-after, all-bits}
+use Rattle.meaning.specs.declared.Row.{Row}
 use Rattle.words.proofs.Taken.{second-holds}
 use Rattle.listing.proofs.Laws.{value-row, change-row, join-row}
 use Rattle.tick.specs.Stack.{stack-in, Lent, value-of, Applicable, Applied}
@@ -80,19 +81,19 @@ value-after cur atoms w st p q =
     λ c. pick-true _ _ (eq-eqb (operation w) 4 (omega (arith, eqb-false (operation w) 1 a, eqb-false (operation w) 2 b, eqb-false (operation w) 3 c)))
 
 -- What a word names is lent.
-module _ {cur atoms : List ℕ} {w : ℕ} (l : Lent cur atoms w) where
+module _ {cur atoms w : ℕ} (l : Lent cur atoms w) where
   -- An atom.
-  pub atom-lent : operation w ≡ 1 → argument w < length atoms
+  pub atom-lent : operation w ≡ 1 → argument w < atoms
   atom-lent q = l .atom q
 
   -- A register.
-  pub register-lent : operation w ≡ 2 → argument w < length cur
+  pub register-lent : operation w ≡ 2 → argument w < cur
   register-lent q = l .register q
 
 -- What the code asks of the stack before it reads or writes there.
-module _ {cur atoms places : List ℕ} {h w : ℕ} (r : Applicable cur atoms places h w) where
+module _ {registers lent : ℕ} {places : List ℕ} {h w : ℕ} (r : Applicable registers lent places h w) where
   -- A value is put just past the stack, which has room.
-  pub room-above : operation w < 5 → h < length places
+  room-above : operation w < 5 → h < length places
   room-above q = omega (arith, rw (value-row (operation w) (r .operand .known) (omega arith)) at (r .room))
 
   -- And and or find two values.
@@ -123,22 +124,57 @@ module _ {cur atoms places : List ℕ} {h w : ℕ} (r : Applicable cur atoms pla
   pub second-bit : 7 ≤ operation w → getD places (h - 2) 0 ≤ 1
   second-bit q = first-bit _ _ (rest-bits _ _ (rw (two-off places h (two-there q)) at (r .bits)))
 
+  -- By the table's rows: what any, not, and, or take is there ..
+  pub any-finds : {v : Row} → v ≡ row-of 5 → 5 ≤ operation w → v .takes ≤ h
+  any-finds e q = rw (e, change-row 5 (omega arith) (omega arith)) (one-there q)
+
+  pub not-finds : {v : Row} → v ≡ row-of 6 → 5 ≤ operation w → v .takes ≤ h
+  not-finds e q = rw (e, change-row 6 (omega arith) (omega arith)) (one-there q)
+
+  pub and-finds : {v : Row} → v ≡ row-of 7 → 7 ≤ operation w → v .takes ≤ h
+  and-finds e q = rw (e, join-row 7 (omega arith) (omega arith)) (two-there q)
+
+  pub or-finds : {v : Row} → v ≡ row-of 8 → 7 ≤ operation w → v .takes ≤ h
+  or-finds e q = rw (e, join-row 8 (omega arith) (omega arith)) (two-there q)
+
+  -- .. and where the value of a word goes lies within the slice.
+  pub value-room : {v : Row} → v ≡ row-of 1 → operation w < 5 → h - v .takes < length places
+  value-room e q = rw (e, value-row 1 (omega arith) (omega arith)) (omega (arith, room-above q))
+
+  pub not-room : {v : Row} → v ≡ row-of 6 → 5 ≤ operation w → h - v .takes < length places
+  not-room e q = rw (e, change-row 6 (omega arith) (omega arith)) (room-for-one q)
+
+  pub and-room : {v : Row} → v ≡ row-of 7 → 7 ≤ operation w → h - v .takes < length places
+  and-room e q = rw (e, join-row 7 (omega arith) (omega arith)) (room-for-two q)
+
+  pub or-room : {v : Row} → v ≡ row-of 8 → 7 ≤ operation w → h - v .takes < length places
+  or-room e q = rw (e, join-row 8 (omega arith) (omega arith)) (room-for-two q)
+
   -- Each kind of operation, as the code ends it.
-  module _ {after : List ℕ} {n : ℕ} where
+  module _ {cur atoms after : List ℕ} {n : ℕ} where
     -- Operations 1 to 4.
-    pub apply-value : {v : ℕ} → operation w < 5 → v ≡ value-of cur atoms w → n ≡ h + 1 → after ≡ set places h v → Applied cur atoms places after h w n
-    apply-value {v} q e a b = record {
-      long = rw b (length-set places h v);
-      high = rw (a, value-row (operation w) (r .operand .known) (omega arith)) (omega arith);
-      holds = rw (a, b, put-on places h v (room-above q), e) (sym (value-after cur atoms w (stack-in places h) (r .operand .known) q));
-    }
+    pub apply-value : {v : ℕ} {k : Row} → operation w < 5 → v ≡ value-of cur atoms w → k ≡ row-of 1 → n ≡ h - k .takes + k .leaves
+        → after ≡ set places (h - k .takes) v → Applied cur atoms places after h w n
+    apply-value {v} q e f x y =
+        let leaf = f ∙ value-row 1 (omega arith) (omega arith) in
+        let a : n ≡ h + 1 = x ∙ rw leaf (omega arith) in
+        let none : h - 0 ≡ h = omega arith in
+        let b : after ≡ set places h v = y ∙ rw (leaf, none) refl in
+        record {
+          long = rw b (length-set places h v);
+          high = rw (a, value-row (operation w) (r .operand .known) (omega arith)) (omega arith);
+          holds = rw (a, b, put-on places h v (room-above q), e) (sym (value-after cur atoms w (stack-in places h) (r .operand .known) q));
+        }
 
     -- Operation 6.
-    pub apply-not : 5 ≤ operation w → (operation w ≡ 5 → ⊥) → operation w < 7 → n ≡ h - 1 + 1 → after ≡ set places (h - 1) (1 - getD places (h - 1) 0)
-        → Applied cur atoms places after h w n
+    pub apply-not : {k : Row} → 5 ≤ operation w → (operation w ≡ 5 → ⊥) → operation w < 7 → k ≡ row-of 6 → n ≡ h - k .takes + k .leaves
+        → after ≡ set places (h - k .takes) (1 - getD places (h - 1) 0) → Applied cur atoms places after h w n
     unfolding stack-after pick negated
-    apply-not u x v a b =
+    apply-not u x v f y z =
         let q : operation w ≡ 6 = omega arith in
+        let unary = f ∙ change-row 6 (omega arith) (omega arith) in
+        let a : n ≡ h - 1 + 1 = y ∙ rw unary refl in
+        let b : after ≡ set places (h - 1) (1 - getD places (h - 1) 0) = z ∙ rw unary refl in
         record {
           long = rw b (length-set places (h - 1) (1 - getD places (h - 1) 0));
           high = rw (a, change-row (operation w) (omega arith) (omega arith)) refl;
@@ -146,19 +182,28 @@ module _ {cur atoms places : List ℕ} {h w : ℕ} (r : Applicable cur atoms pla
         }
 
     -- Operation 7.
-    pub apply-and : {x : ℕ} → operation w ≡ 7 → x ≡ getD places (h - 2) 0 * getD places (h - 1) 0 → n ≡ h - 2 + 1 → after ≡ set places (h - 2) x → Applied cur atoms places after h w n
+    pub apply-and : {x : ℕ} {k : Row} → operation w ≡ 7 → x ≡ getD places (h - 2) 0 * getD places (h - 1) 0 → k ≡ row-of 7
+        → n ≡ h - k .takes + k .leaves → after ≡ set places (h - k .takes) x → Applied cur atoms places after h w n
     unfolding stack-after pick anded
-    apply-and {x} q v a b = record {
-      long = rw b (length-set places (h - 2) x);
-      high = rw (a, join-row (operation w) (omega arith) (omega arith)) refl;
-      holds = rw (a, b, q, put-on places (h - 2) x (room-for-two (omega arith)), two-off places h (two-there (omega arith)), v) refl;
-    }
+    apply-and {x} q v f y z =
+        let binary = f ∙ join-row 7 (omega arith) (omega arith) in
+        let a : n ≡ h - 2 + 1 = y ∙ rw binary refl in
+        let b : after ≡ set places (h - 2) x = z ∙ rw binary refl in
+        record {
+          long = rw b (length-set places (h - 2) x);
+          high = rw (a, join-row (operation w) (omega arith) (omega arith)) refl;
+          holds = rw (a, b, q, put-on places (h - 2) x (room-for-two (omega arith)), two-off places h (two-there (omega arith)), v) refl;
+        }
 
     -- Operation 8.
-    pub apply-or : {x : ℕ} → 7 ≤ operation w → (operation w ≡ 7 → ⊥) → x ≡ max (getD places (h - 2) 0) (getD places (h - 1) 0) → n ≡ h - 2 + 1 → after ≡ set places (h - 2) x → Applied cur atoms places after h w n
+    pub apply-or : {x : ℕ} {k : Row} → 7 ≤ operation w → (operation w ≡ 7 → ⊥) → x ≡ max (getD places (h - 2) 0) (getD places (h - 1) 0) → k ≡ row-of 8
+        → n ≡ h - k .takes + k .leaves → after ≡ set places (h - k .takes) x → Applied cur atoms places after h w n
     unfolding stack-after pick ored
-    apply-or {x} k m v a b =
+    apply-or {x} l m v f y z =
         let q : operation w ≡ 8 = omega (arith, r .value) in
+        let binary = f ∙ join-row 8 (omega arith) (omega arith) in
+        let a : n ≡ h - 2 + 1 = y ∙ rw binary refl in
+        let b : after ≡ set places (h - 2) x = z ∙ rw binary refl in
         record {
           long = rw b (length-set places (h - 2) x);
           high = rw (a, join-row (operation w) (omega arith) (omega arith)) refl;
@@ -166,9 +211,12 @@ module _ {cur atoms places : List ℕ} {h w : ℕ} (r : Applicable cur atoms pla
         }
 
   -- Operation 5 leaves a bit as it is.
-  pub apply-any : operation w ≡ 5 → Applied cur atoms places places h w h
+  pub apply-any : {cur atoms : List ℕ} {n : ℕ} {k : Row} → operation w ≡ 5 → k ≡ row-of 5 → n ≡ h - k .takes + k .leaves → Applied cur atoms places places h w n
   unfolding stack-after pick
-  apply-any q = record { long = refl; high = rw (change-row (operation w) (omega arith) (omega arith)) (omega (arith, one-there (omega arith))); holds = rw q refl }
+  apply-any {n = n} q f e =
+      let a : n ≡ h - 1 + 1 = e ∙ rw (f ∙ change-row 5 (omega arith) (omega arith)) refl in
+      let still : n ≡ h = omega (arith, a, one-there (omega arith)) in
+      record { long = refl; high = rw (a, change-row (operation w) (omega arith) (omega arith)) refl; holds = rw (still, q) refl }
 
 -- The negation of a bit is a bit.
 negated-bits : (st : List ℕ) → all-bits st ≡ true → all-bits (negated st) ≡ true

@@ -3,19 +3,20 @@
 use mathlib.Core.Path.{_≡_, refl, sym, _∙_}
 use mathlib.Core.Bool.{Bool, true, false}
 use mathlib.Core.List.{List, [], _∷_, tail}
-use Prim.Native.Nat.{ℕ, zero, suc, _+_, _<_, _≤_, max}
+use Prim.Native.Nat.{ℕ, zero, suc, _+_, _-_, _<_, _≤_, max}
 use native.Mathlib.Nat.{zero-add, add-zero, add-assoc, le-max-left, le-max-right}
 use native.Mathlib.Omega.{arith}
 use lib.Dec.{eqb, ltb}
-use lib.ListN.{length, getD, set, take, drop, drop-of-length-le}
+use lib.ListN.{length, getD, set, take, drop, length-set, drop-of-length-le}
 use lib.Seq.{length-take-le, getD-take}
 use borrow.Author.Tests.{eq-eqb, ne-eqb, le-leb, lt-leb, ltb-false}
 use Rattle.words.specs.Choice.{pick, pick-true, pick-false}
 use Rattle.words.specs.Written.{written, Wrote}
 use Rattle.words.proofs.Laws.{drop-here, Going, begin, go-word, done}
-use Rattle.meaning.specs.Listing.{operation, argument, height, is-store, registers, deepest-from, deepest, atoms-named}
+use Rattle.meaning.specs.Listing.{operation, argument, row-of, height, is-store, registers, deepest-from, deepest, atoms-named}
 use Rattle.meaning.specs.Check.{check-from, check}
 use Rattle.meaning.specs.Tick.{top, stack-after, stored, matched, all-bits, named-bits}
+use Rattle.meaning.specs.declared.Row.{Row}
 use Rattle.meaning.specs.declared.Checked.the-variants.{Described}
 use Rattle.words.proofs.Taken.{second-holds}
 use Rattle.meaning.proofs.Operations.{operation-is-store, below-9-is-no-store}
@@ -101,6 +102,7 @@ pub record Evaluating (ws cur atoms next next′ stack stack′ : List ℕ) (k h
   pub atom-bits : named-bits atoms (drop i ws) ≡ true
   pub bits : all-bits (stack-in stack′ h) ≡ true
   pub long : length stack′ ≡ length stack
+  pub room : registers ws ≤ length next′
 
 -- Before the first word nothing is stored.
 pub evaluating-begins : {ws cur atoms next stack : List ℕ} → Ready ws cur atoms next stack → Evaluating ws cur atoms next next stack stack 0 0 0
@@ -117,6 +119,7 @@ evaluating-begins {ws} {cur} {atoms} {next} {stack} r = record {
   atom-bits = r .atom-bits;
   bits = refl;
   long = refl;
+  room = r .next-long;
 }
 
 module _ {ws cur atoms next next′ stack stack′ : List ℕ} {k h i : ℕ} (r : Ready ws cur atoms next stack)
@@ -140,9 +143,9 @@ module _ {ws cur atoms next next′ stack stack′ : List ℕ} {k h i : ℕ} (r 
       let m = rw (pick-true {A = ℕ} (argument (word-at ws i) + 1) 0 (eq-eqb _ _ q)) at atoms-here in
       omega (arith, le-max-left (argument (word-at ws i) + 1) (atoms-named (behind ws i)))
 
-  -- A register that is named is lent.
-  register-lent-here : operation (word-at ws i) ≡ 2 → argument (word-at ws i) < length cur
-  register-lent-here q = omega (arith, register-below fitting-here q, r .cur-long)
+  -- A register that is named is lent, where all are.
+  register-lent-here : {lent : ℕ} → registers ws ≤ lent → operation (word-at ws i) ≡ 2 → argument (word-at ws i) < lent
+  register-lent-here m q = omega (arith, register-below fitting-here q, m)
 
   -- The atoms that the word and the later ones name are bits.
   bits-here : pick (eqb (operation (word-at ws i)) 1) (pick (ltb 1 (getD atoms (argument (word-at ws i)) 0)) false (named-bits atoms (behind ws i))) (named-bits atoms (behind ws i)) ≡ true
@@ -170,14 +173,14 @@ module _ {ws cur atoms next next′ stack stack′ : List ℕ} {k h i : ℕ} (r 
   unfolding registers
   left-here = g .left ∙ rw (drop-here ws i l) refl
 
-  -- What `apply` asks of a word of an expression.
-  pub applicable : operation (word-at ws i) < 9 → Applicable cur atoms stack′ h (word-at ws i)
-  applicable q = record {
+  -- What `apply` asks of a word of an expression, and of as many registers as there are.
+  pub applicable : {lent : ℕ} → registers ws ≤ lent → operation (word-at ws i) < 9 → Applicable lent (length atoms) stack′ h (word-at ws i)
+  applicable m q = record {
     operand = fitting-here .operand;
     value = q;
     inside = g .high;
     room = omega (arith, deep-here, le-max-left (height h (word-at ws i)) (deepest-from (height h (word-at ws i)) (behind ws i)));
-    lent = record { atom = atom-lent-here; register = register-lent-here };
+    lent = record { atom = atom-lent-here; register = register-lent-here m };
     bits = g .bits;
   }
 
@@ -199,6 +202,7 @@ module _ {ws cur atoms next next′ stack stack′ : List ℕ} {k h i : ℕ} (r 
         atom-bits = later-bits _ _ _ bits-here;
         bits = rw (a .holds) (bits-after cur atoms (word-at ws i) (stack-in stack′ h) atom-bit-here register-bit-here (g .bits));
         long = a .long ∙ g .long;
+        room = g .room;
       }
 
   -- A store or the match finds one value, the stack's first.
@@ -206,6 +210,10 @@ module _ {ws cur atoms next next′ stack stack′ : List ℕ} {k h i : ℕ} (r 
     -- There is exactly one value.
     one-value : h ≡ 1
     one-value = fitting-here .alone q
+
+    -- A store finds it.
+    pub store-finds : {row : Row} → row ≡ row-of 9 → row .takes ≤ h
+    store-finds e = rw (e, end-row 9 (omega arith) (omega arith), one-value) (omega arith)
 
     -- It lies within the slice.
     pub value-there : 0 < length stack′
@@ -223,12 +231,12 @@ module _ {ws cur atoms next next′ stack stack′ : List ℕ} {k h i : ℕ} (r 
 
       -- Its register lies within `next`.
       pub room-for-store : k < length next′
-      room-for-store = omega (arith, left-here, r .next-long, g .going .long, pick-true {A = ℕ} 1 0 store-here)
+      room-for-store = omega (arith, left-here, g .room, pick-true {A = ℕ} 1 0 store-here)
 
-      -- A register takes its store.
-      pub evaluating-stored : {next″ : List ℕ} {n : ℕ} → n ≡ k + 1 → next″ ≡ set next′ k (getD stack′ 0 0) → Evaluating ws cur atoms next next″ stack stack′ n 0 (i + 1)
+      -- A register takes its store ..
+      stored-there : {next″ : List ℕ} {n : ℕ} → n ≡ k + 1 → next″ ≡ set next′ k (getD stack′ 0 0) → Evaluating ws cur atoms next next″ stack stack′ n 0 (i + 1)
       unfolding stack-in all-bits top written
-      evaluating-stored u v =
+      stored-there u v =
           let empty : stack-after cur atoms (word-at ws i) (stack-in stack′ h) ≡ [] = end-after cur atoms (word-at ws i) [] (stack-in stack′ h) q ∙ rw stack-here refl in
           let low : height h (word-at ws i) ≡ 0 = rw (end-row (operation (word-at ws i)) q (fitting-here .operand .last), one-value) refl in
           let more : _≡_ {A = ℕ} (pick (is-store (word-at ws i)) 1 0) 1 = pick-true {A = ℕ} 1 0 store-here in
@@ -248,7 +256,15 @@ module _ {ws cur atoms next next′ stack stack′ : List ℕ} {k h i : ℕ} (r 
             atom-bits = later-bits _ _ _ bits-here;
             bits = refl;
             long = g .long;
+            room = rw (v, length-set next′ k (getD stack′ 0 0)) (g .room);
           }
+
+      -- .. and the stack is empty.
+      pub evaluating-stored : {next″ : List ℕ} {n m : ℕ} {row : Row} → n ≡ k + 1 → next″ ≡ set next′ k (getD stack′ 0 0) → row ≡ row-of 9
+          → m ≡ h - row .takes + row .leaves → Evaluating ws cur atoms next next″ stack stack′ n m (i + 1)
+      evaluating-stored {m = m} u v e f =
+          let none : m ≡ 0 = f ∙ rw (e, end-row 9 (omega arith) (omega arith), one-value) refl in
+          rw none (stored-there u v)
 
   -- At the match all registers have their stores.
   pub evaluated-there : operation (word-at ws i) ≡ 14 → Evaluated ws cur atoms next next′ (getD stack′ 0 0)

@@ -19,10 +19,10 @@ use Rattle.tick.specs.declared.Tally.{Tally}
 use Rattle.tick.specs.declared.Noted.{Noted}
 use Rattle.tick.specs.declared.Noted.the-variants.{Fits, Unfit}
 
--- The tally with what `larger` answers.
-pub raised-height : {d : ℕ} (v : Row) (s : Tally) → d ≡ max (s .deepest) (s .height - v .takes + v .leaves)
-    → record { stores = s .stores; height = s .height - v .takes + v .leaves; deepest = d; atoms = s .atoms; named = s .named; bits = s .bits } ≡ raised-by v s
-raised-height v s e = rw e refl
+-- The tally with what `moved` and `larger` answer.
+pub raised-height : {h d : ℕ} (v : Row) (s : Tally) → h ≡ s .height - v .takes + v .leaves → d ≡ max (s .deepest) h
+    → record { stores = s .stores; height = h; deepest = d; atoms = s .atoms; named = s .named; bits = s .bits } ≡ raised-by v s
+raised-height v s f e = rw (e, f) refl
 
 -- A choice whose test is made of tests, taken test by test.
 module _ {A : Type 0} (x y : A) where

@@ -18,7 +18,7 @@ use Rattle.meaning.specs.Tick.{too-short, all-bits, named-bits, bits, tick-if, 
 use Rattle.meaning.specs.declared.Checked.{Checked}
 use Rattle.meaning.specs.declared.Checked.the-variants.{Described, Faulty as FaultyAt}
 use Rattle.meaning.specs.declared.Ticked.the-variants.{Match, Refused}
-use Rattle.tick.specs.Survey.{wanted, lacking, surveyed-if, surveyed}
+use Rattle.tick.specs.Survey.{wanted, lacking, surveyed-if, surveyed, Undescribed}
 use Rattle.tick.specs.Stack.{Ready, Evaluated}
 use Rattle.tick.specs.Stepped.{Stepped}
 use Rattle.words.proofs.Taken.{one-test, no-test, neither-holds}
@@ -59,11 +59,11 @@ pub highest-decides : {bytes : List ℕ} {h i : ℕ} → Highest bytes h i → l
 unfolding all-bits
 highest-decides {bytes} {h} g m = sym (g .rest ∙ rw (drop-of-length-le bytes m) (one-test (leb h 1)))
 
--- A faulty listing has the place of its fault.
-faulty-check : {place : ℕ} (c : Checked) (ws atoms : List ℕ) → surveyed-if c ws atoms ≡ Faulty place → c ≡ FaultyAt place
+-- A faulty listing is not described.
+faulty-check : (c : Checked) (ws atoms : List ℕ) → surveyed-if c ws atoms ≡ Faulty → c ≡ Described → ⊥
 unfolding surveyed-if
-faulty-check Described ws atoms e = absurd (let z : _≡_ {A = ℕ} 0 1 = cc in omega arith)
-faulty-check (FaultyAt place) ws atoms e = cc
+faulty-check Described ws atoms e q = let z : _≡_ {A = ℕ} 0 1 = cc in omega arith
+faulty-check (FaultyAt place) ws atoms e q = let z : _≡_ {A = ℕ} 0 1 = cc in omega arith
 
 -- A whole one is described, and its wants are known.
 whole-check : {v : Wanted} (c : Checked) (ws atoms : List ℕ) → surveyed-if c ws atoms ≡ Whole v → (c ≡ Described) × (v ≡ wanted ws atoms)
@@ -72,10 +72,10 @@ whole-check Described ws atoms e = (refl, (cc))
 whole-check (FaultyAt place) ws atoms e = absurd (let z : _≡_ {A = ℕ} 0 1 = cc in omega arith)
 
 module _ {s : Surveyed} (ws atoms : List ℕ) (e : s ≡ surveyed ws atoms) where
-  -- 21.
-  pub faulty-tick : {place : ℕ} (cur next stack : List ℕ) → s ≡ Faulty place → Stepped ws cur atoms next next stack stack (Refused 21 place)
-  unfolding surveyed tick tick-if next-after stack-left
-  faulty-tick cur next stack q = record { answer = sym (rw (faulty-check (check ws) ws atoms (sym e ∙ q)) refl); next-holds = refl; stack-holds = refl }
+  -- The listing is not described.
+  pub faulty-undescribed : s ≡ Faulty → Undescribed ws
+  unfolding surveyed
+  faulty-undescribed q = record { never = faulty-check (check ws) ws atoms (sym e ∙ q) }
 
   -- The listing is described.
   pub whole-described : {v : Wanted} → s ≡ Whole v → check ws ≡ Described
@@ -86,6 +86,11 @@ module _ {s : Surveyed} (ws atoms : List ℕ) (e : s ≡ surveyed ws atoms) wher
   pub whole-wanted : {v : Wanted} → s ≡ Whole v → v ≡ wanted ws atoms
   unfolding surveyed
   whole-wanted q = whole-check (check ws) ws atoms (sym e ∙ q) .1
+
+-- 21.
+pub faulty-tick : {place : ℕ} (ws cur atoms next stack : List ℕ) → FaultyAt place ≡ check ws → Stepped ws cur atoms next next stack stack (Refused 21 place)
+unfolding tick tick-if next-after stack-left
+faulty-tick ws cur atoms next stack e = record { answer = sym (rw (← e) refl); next-holds = refl; stack-holds = refl }
 
 -- The registers of a `cur` that is long enough are a part of it.
 pub part-long : {b : Bool} (v : Wanted) (cur : List ℕ) (atoms next stack : ℕ) → b ≡ lacking v (length cur) atoms next stack → b ≡ false

@@ -261,7 +261,12 @@ ends-early {ws} g m = record {
   never = λ d. let q = rw (drop-of-length-le ws m) at (g .only d) in let z : _≡_ {A = ℕ} 0 1 = cc in omega arith;
 }
 
--- The fault that is there is the pass's answer.
-pub faulty-there : {place : ℕ} (ws lent : List ℕ) → FaultyAt place ≡ check ws → Faulty place ≡ surveyed ws lent
-unfolding surveyed surveyed-if
-faulty-there ws lent e = rw (← e) refl
+-- A listing that is not described is faulty, which is the pass's answer.
+faulty-if : (c : Checked) (ws lent : List ℕ) → (c ≡ Described → ⊥) → Faulty ≡ surveyed-if c ws lent
+unfolding surveyed-if
+faulty-if Described ws lent n = absurd (n refl)
+faulty-if (FaultyAt place) ws lent n = refl
+
+pub faulty-there : (ws lent : List ℕ) → Undescribed ws → Faulty ≡ surveyed ws lent
+unfolding surveyed
+faulty-there ws lent u = faulty-if (check ws) ws lent (u .never)

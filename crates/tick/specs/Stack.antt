@@ -19,18 +19,18 @@ unfoldable pub stack-in : List ℕ → ℕ → List ℕ
 stack-in places zero = []
 stack-in places (suc h) = getD places h 0 ∷ stack-in places h
 
--- What a word names is lent.
-pub record Lent (cur atoms : List ℕ) (w : ℕ) : Type 0 where
-  pub atom : operation w ≡ 1 → argument w < length atoms
-  pub register : operation w ≡ 2 → argument w < length cur
+-- What a word names is lent, of so many registers and atoms.
+pub record Lent (cur atoms w : ℕ) : Type 0 where
+  pub atom : operation w ≡ 1 → argument w < atoms
+  pub register : operation w ≡ 2 → argument w < cur
 
 -- What operations 1 to 4 put on the stack: an atom, a register, zero, one.
 unfoldable pub value-of : List ℕ → List ℕ → ℕ → ℕ
 value-of cur atoms w =
     pick (eqb (operation w) 1) (getD atoms (argument w) 0) (pick (eqb (operation w) 2) (getD cur (argument w) 0) (pick (eqb (operation w) 3) 0 1))
 
--- What a word of an expression, operations 1 to 8, asks of the slices.
-pub record Applicable (cur atoms places : List ℕ) (h w : ℕ) : Type 0 where
+-- What a word of an expression, operations 1 to 8, asks of so many registers and atoms, and of the stack.
+pub record Applicable (cur atoms : ℕ) (places : List ℕ) (h w : ℕ) : Type 0 where
   pub operand : OperandFound h w
   pub value : operation w < 9
   pub inside : h ≤ length places

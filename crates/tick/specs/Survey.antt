@@ -62,9 +62,9 @@ wanted ws lent = record { registers = registers ws; atoms = atoms-named ws; deep
 -- By the check's answer.
 unfoldable pub surveyed-if : Checked → List ℕ → List ℕ → Surveyed
 surveyed-if Described ws lent = Whole (wanted ws lent)
-surveyed-if (FaultyAt place) ws lent = Faulty place
+surveyed-if (FaultyAt place) ws lent = Faulty
 
--- The pass's answer: what is wanted, or refusal 21's place.
+-- The pass's answer: what is wanted, or that refusal 21 applies.
 unfoldable pub surveyed : List ℕ → List ℕ → Surveyed
 surveyed ws lent = surveyed-if (check ws) ws lent
 

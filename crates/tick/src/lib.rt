@@ -8,7 +8,7 @@
 ghost use mathlib.Core.Path.{_≡_};
 ghost use mathlib.Core.Bool.{false};
 ghost use mathlib.Core.List.{[]};
-ghost use Prim.Native.Nat.{_*_, _+_, _^_, _≤_, _<_, max};
+ghost use Prim.Native.Nat.{_*_, _+_, _-_, _^_, _≤_, _<_, max};
 ghost use lib.Dec.{ltb};
 ghost use lib.ListN.{length, getD, set, replicate};
 ghost use Rattle.words.specs.Choice.{pick};
@@ -45,19 +45,27 @@ struct Wanted {
     bits: bool,
 }
 
-// The pass's answer; a faulty listing has the place of refusal 21.
+// The pass's answer: what is wanted, or that refusal 21 applies.
 enum Surveyed {
     Whole(Wanted),
-    Faulty(usize),
+    Faulty,
 }
 
-// The tally with the stack's height after a word of this row. The compiled code lays the table out anew at each look-up, so
-// a caller that knows the operation asks for a constant's row, which costs nothing at run time.
+// The stack's height after a word of this row. The compiled code lays the table out anew at each look-up, so a caller that
+// knows the operation asks for a constant's row, which costs nothing at run time.
+fn moved(height: usize, row: meaning::Row) -> usize
+    requires { ⌜ (row .takes ≤ height) × (height < 2 ^ 63) ⌝ }
+    ensures { λ r. ⌜ r ≡ height - row .takes + row .leaves ⌝ }
+{
+    height - row.takes as usize + row.leaves as usize
+}
+
+// The tally with the height after a word of this row.
 fn raised(s: Tally, row: meaning::Row) -> Tally
     requires { ⌜ (row .takes ≤ s .height) × (s .height < 2 ^ 63) ⌝ }
     ensures { λ r. ⌜ r ≡ raised-by row s ⌝ }
 {
-    let height = s.height - row.takes as usize + row.leaves as usize;
+    let height = moved(s.height, row);
     Tally {
         stores: s.stores,
         height,
@@ -199,12 +207,11 @@ fn fault(listing: &[u32]) -> usize
     requires { ⌜ Undescribed (now listing) ⌝ }
     ensures { λ place. ⌜ FaultyAt place ≡ check (now (listing .entry)) ⌝ }
 {
-    let checked = listing::checked(listing);
-    match checked {
-        meaning::Checked::Faulty(place) => place,
+    let meaning::Checked::Faulty(place) = listing::checked(listing) else {
         // Ruled out by what is required.
-        meaning::Checked::Described => 0,
-    }
+        return 0;
+    };
+    place
 }
 
 // The last word: the match at height 1, behind a store for each register named.
@@ -239,13 +246,13 @@ fn survey(listing: &[u32], atoms: &[u8]) -> Surveyed
     let mut i = 0;
     while i + 1 < listing.len() {
         let Noted::Fits(t) = note(s, listing[i], atoms) else {
-            return Surveyed::Faulty(fault(listing));
+            return Surveyed::Faulty;
         };
         s = t;
         i += 1;
     }
     if listing.len() <= i {
-        return Surveyed::Faulty(fault(listing));
+        return Surveyed::Faulty;
     }
     if ends(s, listing[i]) {
         return Surveyed::Whole(Wanted {
@@ -255,7 +262,7 @@ fn survey(listing: &[u32], atoms: &[u8]) -> Surveyed
             bits: s.bits,
         });
     }
-    Surveyed::Faulty(fault(listing))
+    Surveyed::Faulty
 }
 
 // The larger of two bytes; of two bits, their OR.
@@ -289,18 +296,18 @@ fn are_bits(bytes: &[u8]) -> bool
     highest <= 1
 }
 
-// Puts a value on the stack; the height after.
-fn push(stack: &mut [u8], height: usize, x: u8) -> usize
-    requires { ⌜ height < length (now stack) ⌝ }
-    ensures { λ r. ⌜ (r ≡ height + 1) × (now (stack .exit) ≡ set (now (stack .entry)) height x) ⌝ }
+// Puts the value of a word of this row where the first that it takes stood; the height after.
+fn put(stack: &mut [u8], height: usize, row: meaning::Row, x: u8) -> usize
+    requires { ⌜ (row .takes ≤ height) × (height < 2 ^ 63) × (height - row .takes < length (now stack)) ⌝ }
+    ensures { λ r. ⌜ (r ≡ height - row .takes + row .leaves) × (now (stack .exit) ≡ set (now (stack .entry)) (height - row .takes) x) ⌝ }
 {
-    stack[height] = x;
-    height + 1
+    stack[height - row.takes as usize] = x;
+    moved(height, row)
 }
 
 // The value that operations 1 to 4 put on the stack.
 fn value(w: u32, cur: &[u8], atoms: &[u8]) -> u8
-    requires { ⌜ Lent (now cur) (now atoms) w ⌝ }
+    requires { ⌜ Lent (length (now cur)) (length (now atoms)) w ⌝ }
     ensures { λ r. ⌜ r ≡ value-of (now (cur .entry)) (now (atoms .entry)) w ⌝ }
 {
     let o = w / 16777216;
@@ -317,27 +324,27 @@ fn value(w: u32, cur: &[u8], atoms: &[u8]) -> u8
     1
 }
 
-// A word of an expression, operations 1 to 8, on the stack; the height after.
+// A word of an expression, operations 1 to 8, on the stack, each kind by its row; the height after.
 fn apply(w: u32, cur: &[u8], atoms: &[u8], stack: &mut [u8], height: usize) -> usize
-    requires { ⌜ Applicable (now cur) (now atoms) (now stack) height w ⌝ }
+    requires { ⌜ Applicable (length (now cur)) (length (now atoms)) (now stack) height w ⌝ }
     ensures { λ r. ⌜ Applied (now (cur .entry)) (now (atoms .entry)) (now (stack .entry)) (now (stack .exit)) height w r ⌝ }
 {
     let o = w / 16777216;
     if o < 5 {
-        return push(stack, height, value(w, cur, atoms));
+        return put(stack, height, listing::row(1), value(w, cur, atoms));
     }
     if o == 5 {
-        return height;
+        return moved(height, listing::row(5));
     }
     let y = stack[height - 1];
     if o < 7 {
-        return push(stack, height - 1, 1 - y);
+        return put(stack, height, listing::row(6), 1 - y);
     }
     let x = stack[height - 2];
     if o == 7 {
-        return push(stack, height - 2, both(x, y));
+        return put(stack, height, listing::row(7), both(x, y));
     }
-    push(stack, height - 2, either(x, y))
+    put(stack, height, listing::row(8), either(x, y))
 }
 
 // Register r of `next` takes its value; the register after it.
@@ -370,7 +377,7 @@ fn evaluate(listing: &[u32], cur: &[u8], atoms: &[u8], next: &mut [u8], stack: &
                 return bit;
             }
             stores = store(next, stores, bit);
-            height = 0;
+            height = moved(height, listing::row(9));
         }
         i = place;
     }
@@ -443,9 +450,8 @@ pub fn tick(
 ) -> meaning::Ticked
     ensures { λ r. ⌜ Stepped (now (listing .entry)) (now (cur .entry)) (now (atoms .entry)) (now (next .entry)) (now (next .exit)) (now (stack .entry)) (now (stack .exit)) r ⌝ }
 {
-    let surveyed = survey(listing, atoms);
-    match surveyed {
-        Surveyed::Faulty(place) => meaning::Ticked::Refused(21, place),
-        Surveyed::Whole(wanted) => step(listing, cur, atoms, next, stack, wanted),
-    }
+    let Surveyed::Whole(wanted) = survey(listing, atoms) else {
+        return meaning::Ticked::Refused(21, fault(listing));
+    };
+    step(listing, cur, atoms, next, stack, wanted)
 }

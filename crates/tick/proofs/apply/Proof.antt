@@ -1,21 +1,32 @@
 -- One word on the stack, by the kind of its operation.
-use Rattle.tick.proofs.AppliedWord.{room-above, one-there, two-there, room-for-one, room-for-two, top-bit, second-bit}
+use Rattle.tick.proofs.NotedWord.{value-takes}
+use Rattle.tick.proofs.AppliedWord.{one-there, two-there, room-for-one, room-for-two, top-bit, second-bit}
+use Rattle.tick.proofs.AppliedWord.{any-finds, not-finds, and-finds, or-finds, value-room, not-room, and-room, or-room}
 use Rattle.tick.proofs.AppliedWord.{apply-value, apply-any, apply-not, apply-and, apply-or}
 use borrow.Author.Needs.{needs}
 use Rattle.tick.proofs.apply.Statement.{statement}
 use Rattle.tick.proofs.apply.Tie as tie
 
+row-requires : tie.Need-row-requires
+row-requires c κs = search needs
+
 value-requires : tie.Need-value-requires
 value-requires c κs = search needs
 
-push-requires : tie.Need-push-requires
-push-requires c κs = search room-above
+put-requires : tie.Need-put-requires
+put-requires c κs = (search (value-takes, needs), search needs, search value-room)
 
 same-length : tie.Need-same-length
 same-length c = search needs
 
 returns : tie.Need-returns
 returns c = search apply-value
+
+row-requires-2 : tie.Need-row-requires-2
+row-requires-2 c κs = search needs
+
+moved-requires : tie.Need-moved-requires
+moved-requires c κs = (search any-finds, search needs)
 
 returns-2 : tie.Need-returns-2
 returns-2 c = search apply-any
@@ -26,14 +37,14 @@ sub-y c = search one-there
 slice-read-y : tie.Need-slice-read-y
 slice-read-y c = search room-for-one
 
-sub-push : tie.Need-sub-push
-sub-push c = search one-there
+row-requires-3 : tie.Need-row-requires-3
+row-requires-3 c κs = search needs
 
-sub-push-2 : tie.Need-sub-push-2
-sub-push-2 c = search top-bit
+sub-put : tie.Need-sub-put
+sub-put c = search top-bit
 
-push-requires-2 : tie.Need-push-requires-2
-push-requires-2 c κs = search room-for-one
+put-requires-2 : tie.Need-put-requires-2
+put-requires-2 c κs = (search not-finds, search needs, search not-room)
 
 same-length-2 : tie.Need-same-length-2
 same-length-2 c = search needs
@@ -47,14 +58,14 @@ sub-x c = search two-there
 slice-read-x : tie.Need-slice-read-x
 slice-read-x c = search room-for-two
 
-sub-push-3 : tie.Need-sub-push-3
-sub-push-3 c = search two-there
+row-requires-4 : tie.Need-row-requires-4
+row-requires-4 c κs = search needs
 
 both-requires : tie.Need-both-requires
 both-requires c κs = search second-bit
 
-push-requires-3 : tie.Need-push-requires-3
-push-requires-3 c κs = search room-for-two
+put-requires-3 : tie.Need-put-requires-3
+put-requires-3 c κs = (search and-finds, search needs, search and-room)
 
 same-length-3 : tie.Need-same-length-3
 same-length-3 c = search needs
@@ -62,14 +73,14 @@ same-length-3 c = search needs
 returns-4 : tie.Need-returns-4
 returns-4 c = search apply-and
 
-sub-push-4 : tie.Need-sub-push-4
-sub-push-4 c = search two-there
+row-requires-5 : tie.Need-row-requires-5
+row-requires-5 c κs = search needs
 
 either-requires : tie.Need-either-requires
 either-requires c κs = search needs
 
-push-requires-4 : tie.Need-push-requires-4
-push-requires-4 c κs = search room-for-two
+put-requires-4 : tie.Need-put-requires-4
+put-requires-4 c κs = (search or-finds, search needs, search or-room)
 
 same-length-4 : tie.Need-same-length-4
 same-length-4 c = search needs
@@ -81,27 +92,30 @@ pub apply-spec : {M : Type 1} → statement M
 apply-spec =
     tie.close
     (tie.spec
+    row-requires
     value-requires
-    push-requires
+    put-requires
     same-length
     returns
+    row-requires-2
+    moved-requires
     returns-2
     sub-y
     slice-read-y
-    sub-push
-    sub-push-2
-    push-requires-2
+    row-requires-3
+    sub-put
+    put-requires-2
     same-length-2
     returns-3
     sub-x
     slice-read-x
-    sub-push-3
+    row-requires-4
     both-requires
-    push-requires-3
+    put-requires-3
     same-length-3
     returns-4
-    sub-push-4
+    row-requires-5
     either-requires
-    push-requires-4
+    put-requires-4
     same-length-4
     returns-5)

@@ -2,7 +2,7 @@
 use borrow.Author.Needs.{needs}
 use Prim.Native.Nat.{_-_}
 use lib.ListN.{length}
-use Rattle.tick.proofs.Evaluating.{Evaluating, evaluating-begins, applicable, value-there, room-for-store, evaluating-on, evaluating-stored, evaluated-there, never-past}
+use Rattle.tick.proofs.Evaluating.{Evaluating, evaluating-begins, applicable, value-there, room-for-store, store-finds, evaluating-on, evaluating-stored, evaluated-there, never-past}
 use Rattle.tick.proofs.evaluate.Statement.{statement}
 use Rattle.tick.proofs.evaluate.Tie as tie
 
@@ -42,6 +42,12 @@ returns c = search evaluated-there
 store-requires : tie.Need-store-requires Inv-loop μ-loop
 store-requires c κs = search room-for-store
 
+row-requires : tie.Need-row-requires Inv-loop μ-loop
+row-requires c κs = search needs
+
+moved-requires : tie.Need-moved-requires Inv-loop μ-loop
+moved-requires c κs = (search store-finds, search needs)
+
 loop-less : tie.Need-loop-less Inv-loop μ-loop
 loop-less c = search needs
 
@@ -79,6 +85,8 @@ evaluate-spec =
     same-length-2
     returns
     store-requires
+    row-requires
+    moved-requires
     loop-less
     loop-again
     loop-less-2

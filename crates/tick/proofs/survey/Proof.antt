@@ -33,11 +33,8 @@ enum-known-t c = search needs
 enum-told : tie.Need-enum-told Inv-loop μ-loop
 enum-told c = search needs
 
-fault-requires : tie.Need-fault-requires Inv-loop μ-loop
-fault-requires c κs = search unfit-here
-
 returns : tie.Need-returns Inv-loop μ-loop
-returns c = search faulty-there
+returns c = search (faulty-there, unfit-here)
 
 add-i : tie.Need-add-i Inv-loop μ-loop
 add-i c = search needs
@@ -48,11 +45,8 @@ loop-less c = search needs
 loop-again : tie.Need-loop-again Inv-loop μ-loop
 loop-again c = search surveying-on
 
-fault-requires-2 : tie.Need-fault-requires-2 Inv-loop μ-loop
-fault-requires-2 c κs = search ends-early
-
 returns-2 : tie.Need-returns-2 Inv-loop μ-loop
-returns-2 c = search faulty-there
+returns-2 c = search (faulty-there, ends-early)
 
 mul-ends : tie.Need-mul-ends Inv-loop μ-loop
 mul-ends c = search needs
@@ -66,11 +60,8 @@ ends-requires c κs = search needs
 returns-3 : tie.Need-returns-3 Inv-loop μ-loop
 returns-3 c = search whole-there
 
-fault-requires-3 : tie.Need-fault-requires-3 Inv-loop μ-loop
-fault-requires-3 c κs = search unended
-
 returns-4 : tie.Need-returns-4 Inv-loop μ-loop
-returns-4 c = search faulty-there
+returns-4 c = search (faulty-there, unended)
 
 pub survey-spec : {M : Type 1} → statement M
 survey-spec =
@@ -85,16 +76,13 @@ survey-spec =
     note-requires
     enum-known-t
     enum-told
-    fault-requires
     returns
     add-i
     loop-less
     loop-again
-    fault-requires-2
     returns-2
     mul-ends
     shared-slice-read-ends
     ends-requires
     returns-3
-    fault-requires-3
     returns-4)

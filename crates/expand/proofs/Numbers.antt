@@ -1,6 +1,6 @@
 -- Which alternatives of its operands an alternative is made of, from its number alone, and that they are numbered too: what
 -- a recursion on the node number goes by, whatever it writes of the alternative.
-use mathlib.Core.Path.{_≡_, refl, sym, ap, _∙_, subst}
+use mathlib.Core.Path.{_≡_, refl, sym, ap, _∙_}
 use mathlib.Core.Bool.{Bool, true, false}
 use mathlib.Core.List.{List}
 use Prim.Native.Nat.{ℕ, zero, suc, _+_, _*_, _-_, _<_, _≤_, _/_, _%_}

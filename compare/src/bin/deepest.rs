@@ -3,6 +3,7 @@
 //! taken on the same stack. Ends with the most bytes that a call wrote to.
 //!
 //! Seen with the archive for x86-64: 64,328 bytes at most; with 61,440 in place of the promised 65,536 a segmentation fault, at the fifth tree.
+use compare::commands;
 use compare::listing::Counts;
 use compare::original::UNLIMITED;
 use compare::rules::{decided, Refusal, ENTRIES};
@@ -110,9 +111,8 @@ fn seen(stack: &mut SmallStack, tree: &[u32], work: &mut [u32], out: &mut [u32])
     Ok(counts)
 }
 
-/// All of them, on a thread that has room for what decides the answers anew.
-fn run() {
-    let bytes = std::env::args().nth(1).map_or_else(promised, |bytes| bytes.parse().expect("bytes"));
+/// All of them, on a stack of so many bytes.
+fn run(bytes: usize) {
     let mut stack = SmallStack { bytes, most: 0 };
     let (mut work, mut out) = (vec![0; 16 * ENTRIES as usize], vec![0; WORDS]);
     let (mut accepted, mut refused) = (0, [0; 15]);
@@ -127,6 +127,9 @@ fn run() {
 }
 
 fn main() {
-    let ran = std::thread::Builder::new().stack_size(1 << 30).spawn(run);
-    ran.expect("a thread").join().expect("all trees");
+    let words = commands::words("usage: deepest [BYTES | --help]", |words| {
+        words.len() < 2 && words.iter().all(|word| word.parse::<usize>().is_ok())
+    });
+    let bytes = words.first().map_or_else(promised, |word| word.parse().expect("a number"));
+    commands::run(move || run(bytes));
 }

@@ -6,9 +6,9 @@
 //! functions end the program; a jump through a register is the table of a `match`, since the language has no pointers to functions.
 //!
 //! `OBJDUMP` names a disassembler of x86-64, else it is `objdump`.
-use compare::small_stack;
+use compare::{commands, small_stack};
 use std::collections::BTreeMap;
-use std::process::Command;
+use std::process::{exit, Command};
 
 /// How many calls of itself a function can be in: one for each node down to depth 256, and one that is refused for its depth.
 const DEPTH: usize = 257;
@@ -113,9 +113,9 @@ fn deepest(functions: &BTreeMap<String, Function>, name: &str, above: &mut Vec<S
     path
 }
 
-fn main() {
-    let archive = std::env::args().nth(1).unwrap_or_else(|| "../target/staticlib/libsva_c.a".to_string());
-    let functions = functions(&disassembly(&archive));
+/// The most that each function of the header can take, and that none takes more than is promised.
+fn count(archive: &str) {
+    let functions = functions(&disassembly(archive));
     let promised = small_stack::promised();
     let mut most = 0;
     for (entry, arguments) in ENTRIES {
@@ -125,5 +125,13 @@ fn main() {
         most = most.max(arguments + path.bytes);
     }
     println!("at most {most} of {promised} promised");
-    assert!(most <= promised, "more than is promised");
+    if promised < most {
+        exit(1);
+    }
+}
+
+fn main() {
+    let words = commands::words("usage: frames [ARCHIVE | --help]", |words| words.len() < 2);
+    let archive = words.first().cloned().unwrap_or_else(|| "../target/staticlib/libsva_c.a".to_string());
+    commands::run(move || count(&archive));
 }

@@ -65,6 +65,12 @@ module _ {M : Type 1} (𝓤 : URA M) where
       (fact 𝓤 (outcome next (leaving after) ≡ outcome next′ (leaving after′)))
   by-writing leaving = from-both (wrote-the-same leaving)
 
+  -- .. and a bound is promised too.
+  pub by-writing-and-a-bound : {L : Type 0} (leaving : List ℕ → L) {before after after′ words : List ℕ} {place next next′ : ℕ} {χ χ′ : Type 0}
+      → ent 𝓤 (sep 𝓤 (sep 𝓤 (fact 𝓤 (Wrote before after place next words)) (fact 𝓤 χ)) (sep 𝓤 (fact 𝓤 (Wrote before after′ place next′ words)) (fact 𝓤 χ′)))
+      (fact 𝓤 (outcome next (leaving after) ≡ outcome next′ (leaving after′)))
+  by-writing-and-a-bound leaving = from-all (λ w b w′ b′. wrote-the-same leaving w w′)
+
   -- The result and what one slice holds are two equations.
   pub by-equations : {R L : Type 0} (leaving : List ℕ → L) {r r′ v : R} {after after′ list : List ℕ}
       → ent 𝓤 (sep 𝓤 (sep 𝓤 (fact 𝓤 (r ≡ v)) (fact 𝓤 (after ≡ list))) (sep 𝓤 (fact 𝓤 (r′ ≡ v)) (fact 𝓤 (after′ ≡ list))))

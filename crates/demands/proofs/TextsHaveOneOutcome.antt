@@ -19,6 +19,7 @@ use Rattle.lowered_text.proofs.print as print
 use Rattle.lowered_text.proofs.print_input as print-input
 use Rattle.tool.proofs.asked_by as asked-by
 use Rattle.tool.proofs.status_after as status-after
+use Rattle.tool.proofs.put_usage as put-usage
 use Rattle.listing_program.proofs.status_of as status-of
 use Rattle.demands.specs.OneOutcome.{OneOutcome}
 use Rattle.demands.proofs.OneOutcome.{same-outcome, same, from-both, from-all, by-an-equation, by-writing}
@@ -53,6 +54,9 @@ module _ {M : Type 1} (𝓤 : URA M) (H : Heap 𝓤) (A : Atoms 𝓤) (mem : Mem
 
   pub tool-status-after-has-one-outcome : OneOutcome 𝓤 status-after.ended (status-after.clauses 𝓤 H A mem run)
   tool-status-after-has-one-outcome κs a g o o′ = by-an-equation 𝓤
+
+  pub tool-put-usage-has-one-outcome : OneOutcome 𝓤 put-usage.ended (put-usage.clauses 𝓤 H A mem run)
+  tool-put-usage-has-one-outcome κs a g o o′ = by-an-equation 𝓤
 
   pub listing-program-status-of-has-one-outcome : OneOutcome 𝓤 status-of.ended (status-of.clauses 𝓤 H A mem run)
   listing-program-status-of-has-one-outcome κs a g o o′ = by-an-equation 𝓤

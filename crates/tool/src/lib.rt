@@ -164,7 +164,9 @@ pub fn put_out(text: &[u8], output: &[u8], status: u32) -> u32 {
 }
 
 // How the program is started, on standard error, for a command line that is unknown.
-pub fn put_usage(usage: &[u8]) -> u32 {
+pub fn put_usage(usage: &[u8]) -> u32
+    ensures { λ r. ⌜ r ≡ 2 ⌝ }
+{
     io::write_all(STDERR_FILENO, usage);
     FAILED
 }

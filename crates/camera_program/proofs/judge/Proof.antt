@@ -1,14 +1,14 @@
 -- `judge` ends after the last assertion.
 use borrow.Author.Needs.{needs}
 use Prim.Native.Nat.{_-_, _≤_}
-use Rattle.camera.proofs.judge.Statement.{statement}
-use Rattle.camera.proofs.judge.Tie as tie
+use Rattle.camera_program.proofs.judge.Statement.{statement}
+use Rattle.camera_program.proofs.judge.Tie as tie
 
 abbrev Inv-loop : tie.InvT-loop
-Inv-loop loaded map number₀ number = number ≤ 5
+Inv-loop loaded map out₀ number₀ out number = number ≤ 5
 
 abbrev μ-loop : tie.MeasureT-loop
-μ-loop loaded map number₀ number = 5 - number
+μ-loop loaded map out₀ number₀ out number = 5 - number
 
 loop-holds : tie.Need-loop-holds Inv-loop μ-loop
 loop-holds c = search needs

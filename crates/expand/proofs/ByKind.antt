@@ -189,6 +189,13 @@ module _ {t : List ℕ} {n : ℕ} (E : Expandable t n) where
     unfolding alternatives-of
     atom-alternatives k = ap expand (at-atom t n (rw w at k)) ∙ rw w refl
 
+    pub atom-alternative : v .kind ≡ 1 → (i : ℕ) → i < length (alternatives-of t n) → nth (alternatives-of t n) i ≡ single (BoolTerm (v .p))
+    unfolding nth
+    atom-alternative k i h =
+        let e = atom-alternatives k in
+        let z : i ≡ 0 = omega (arith, rw e at h) in
+        rw (e, z) refl
+
     -- 8: a within is the root's alone.
     pub no-within : v .kind ≡ 7 → ⊥
     unfolding Walkable

@@ -13,6 +13,7 @@ use Rattle.words.proofs.Laws.{same-words, first-room, second-room, both-done, G
 use Rattle.term.specs.Steps.{step-words, steps-words}
 use Rattle.term.proofs.Round.{length-step-words}
 use Rattle.meaning.specs.declared.Node.{Node}
+use Rattle.meaning.specs.declared.SeqTerm.the-variants.{Bool as BoolTerm}
 use Rattle.meaning.specs.declared.SeqHop.{SeqHop}
 use Rattle.meaning.specs.declared.SeqHop.the-variants.{Fixed}
 use Rattle.meaning.specs.declared.SeqStep.{SeqStep}
@@ -23,7 +24,7 @@ use Rattle.expand.specs.declared.Block.{Block}
 use Rattle.expand.specs.ByNumber.{alternatives-of, copies-of, nth, alternative-words, is-copies, single-term, copy-number, Numbered, NumberedCopies}
 use Rattle.expand.specs.Outline.{count-in, bare-in, delay-parts, copies-block, Known}
 use Rattle.expand.proofs.Every.{has-step, each-expanded, each-copies, each-nth}
-use Rattle.expand.proofs.ByKind.{some-alternatives, single-alternative}
+use Rattle.expand.proofs.ByKind.{some-alternatives, atom-alternative, single-alternative}
 use Rattle.expand.proofs.Numbers.{Copied, nth-of-delay, nth-of-throughout, nth-of-block, copy-counted, same-alternatives}
 use Rattle.expand.proofs.Index.{nth-copies, copies-index}
 
@@ -144,6 +145,17 @@ module _ {t q : List ℕ} {n i : ℕ} {v : Node} (h : SeqHop) (o : List ℕ) (at
     pub block-written : {o₁ : List ℕ} {z : ℕ} → Wrote o o₁ at z (copies-words t (v .p) (b .later) h (b .index))
         → Wrote o o₁ at z (node-words t n h i)
     block-written x = same-words (sym block-words) x
+
+  -- an atom
+  atom-words : v .kind ≡ 1 → (s : SeqStep) → s .term ≡ BoolTerm (v .p) → s .hop ≡ h → node-words t n h i ≡ step-words s
+  atom-words k s e f = words-of-one h (alternatives-of t n) i s (atom-alternative (N .node) w k i (N .index) ∙ ap single (sym e)) f
+
+  pub atom-room : v .kind ≡ 1 → at + 5 ≤ length o
+  atom-room k = let s = step (BoolTerm (v .p)) h in rw (atom-words k s refl refl, length-step-words s) at room
+
+  pub atom-written : {o₁ : List ℕ} {z : ℕ} {s : SeqStep} → v .kind ≡ 1 → s .term ≡ BoolTerm (v .p) → s .hop ≡ h
+      → Wrote o o₁ at z (step-words s) → Wrote o o₁ at z (node-words t n h i)
+  atom-written {s = s} k e f y = same-words (sym (atom-words k s e f)) y
 
   -- one term
   module _ {b : Bool} (d : v .kind ≡ 2 → ⊥) (g : v .kind ≡ 6 → ⊥) (c : b ≡ is-copies v i) (x : b ≡ false) where

@@ -333,14 +333,11 @@ pub fn copy_number(outline: &[u32], n: u32, i: u32, later: u32) -> u32
     i / count_copies(a, later - 1) % a
 }
 
-// The one term of alternative i of a node that has none of an operand's alternatives in it.
+// The one term of alternative i of a node, other than an atom, that has none of an operand's alternatives in it.
 fn single_term(t: &[u32], v: meaning::Node, i: u32) -> meaning::SeqTerm
-    requires { ⌜ OperandInside (now t) v ⌝ }
+    requires { ⌜ OperandInside (now t) v × (v .kind ≡ 1 → ⊥) ⌝ }
     ensures { λ r. ⌜ r ≡ single-term (now (t .entry)) v i ⌝ }
 {
-    if v.kind == 1 {
-        return meaning::SeqTerm::Bool(v.p);
-    }
     let b = tree::read(t, v.p);
     if v.kind == 4 {
         return meaning::SeqTerm::Goto(b.p, v.min);
@@ -370,7 +367,7 @@ pub fn alternative(
     bare_alternative(t, outline, bare_of(outline, n), i, h, work, at)
 }
 
-// The same of a node that is no [*1].
+// The same of a node that is no [*1]. Atoms are the most, and asked for first.
 // The hop is handed down: the left operand takes h, the right one the delay's own, so that nothing is patched.
 fn bare_alternative(
     t: &[u32],
@@ -385,6 +382,11 @@ fn bare_alternative(
     ensures { λ next. ⌜ Wrote (now (work .entry)) (now (work .exit)) at next (alternative-words h (alternatives-of (now (t .entry)) n) i) ⌝ }
 {
     let v = tree::read(t, n);
+    if v.kind == 1 {
+        let atom = meaning::SeqTerm::Bool(v.p);
+        let s = meaning::SeqStep { term: atom, hop: h };
+        return term::store(work, at, s);
+    }
     if v.kind == 2 {
         let s = delay_parts(outline, v, i);
         let k = s.hop;

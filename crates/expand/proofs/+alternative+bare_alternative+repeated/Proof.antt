@@ -4,7 +4,7 @@ use borrow.Author.Needs.{needs}
 use Prim.Native.Nat.{_+_, _*_}
 use Rattle.expand.proofs.ByKind.{operand-inside}
 use Rattle.expand.proofs.Numbers.{node-inside, bare-below, bare-numbered, bare-node-known, delay-counts, left-below, right-below, left-numbered, right-numbered, left-operand-known, right-operand-known, guarded-below, guarded-numbered, guarded-operand-known, copied, copies-counts, block-below, block-numbered, base-known, copy-below, copy-inside, copy-some, copy-few, copy-numbered}
-use Rattle.expand.proofs.Written.{bare-room, bare-written, left-room, right-room, delay-written, guarded-room, throughout-written, block-room, block-written, single-room, single-written, Repeating, repeating-begins, copy-room, repeating-on, repeating-ends}
+use Rattle.expand.proofs.Written.{bare-room, bare-written, atom-room, atom-written, left-room, right-room, delay-written, guarded-room, throughout-written, block-room, block-written, single-room, single-written, Repeating, repeating-begins, copy-room, repeating-on, repeating-ends}
 use Prim.Native.Nat.{ℕ, _<_}
 use borrow.Fn.Kinds.{In}
 use borrow.Fn.PlainCycle.{Measures, is, falls, and}
@@ -69,7 +69,7 @@ repeated-below t =
     and 3 repeated-kinds.ps (falls 3 repeated-kinds.ps _<_ μ-repeated t) repeated.Pre
 
 abbrev bare-callees : ℕ → bare-alternative-lts.Claims
-bare-callees t = (read-reads.Asked, read-reads.Learnt, delay-parts-reads.Asked, delay-parts-reads.Learnt, alternative-below t, alternative.Post, made-of-copies-reads.Asked, made-of-copies-reads.Learnt, copies-block-reads.Asked, copies-block-reads.Learnt, repeated-below t, repeated.Post, single-term-reads.Asked, single-term-reads.Learnt, store-reads.Asked, store-reads.Learnt)
+bare-callees t = (read-reads.Asked, read-reads.Learnt, store-reads.Asked, store-reads.Learnt, delay-parts-reads.Asked, delay-parts-reads.Learnt, alternative-below t, alternative.Post, made-of-copies-reads.Asked, made-of-copies-reads.Learnt, copies-block-reads.Asked, copies-block-reads.Learnt, repeated-below t, repeated.Post, single-term-reads.Asked, single-term-reads.Learnt)
 
 abbrev copies-callees : ℕ → repeated-lts.Claims
 copies-callees t = (copy-number-reads.Asked, copy-number-reads.Learnt, alternative-below t, alternative.Post)
@@ -92,6 +92,15 @@ alternative-returns t c = search bare-written
 bare-alternative-read-requires : (t : ℕ) → bare-alternative-lts.Need-read-requires (bare-callees t) (bare-alternative-at t) bare-alternative.Post
 bare-alternative-read-requires t c κs = search needs
 
+bare-alternative-store-requires : (t : ℕ) → bare-alternative-lts.Need-store-requires (bare-callees t) (bare-alternative-at t) bare-alternative.Post
+bare-alternative-store-requires t c κs = search atom-room
+
+bare-alternative-same-length : (t : ℕ) → bare-alternative-lts.Need-same-length (bare-callees t) (bare-alternative-at t) bare-alternative.Post
+bare-alternative-same-length t c = search needs
+
+bare-alternative-returns : (t : ℕ) → bare-alternative-lts.Need-returns (bare-callees t) (bare-alternative-at t) bare-alternative.Post
+bare-alternative-returns t c = search atom-written
+
 bare-alternative-delay-parts-requires : (t : ℕ) → bare-alternative-lts.Need-delay-parts-requires (bare-callees t) (bare-alternative-at t) bare-alternative.Post
 bare-alternative-delay-parts-requires t c κs = search delay-counts
 
@@ -101,20 +110,27 @@ bare-alternative-alternative-requires t c κs = (search left-below, (search left
 bare-alternative-alternative-requires-2 : (t : ℕ) → bare-alternative-lts.Need-alternative-requires-2 (bare-callees t) (bare-alternative-at t) bare-alternative.Post
 bare-alternative-alternative-requires-2 t c κs = (search right-below, (search right-numbered, search right-operand-known, search right-room))
 
-bare-alternative-same-length : (t : ℕ) → bare-alternative-lts.Need-same-length (bare-callees t) (bare-alternative-at t) bare-alternative.Post
-bare-alternative-same-length t c = search needs
-
-bare-alternative-returns : (t : ℕ) → bare-alternative-lts.Need-returns (bare-callees t) (bare-alternative-at t) bare-alternative.Post
-bare-alternative-returns t c = search delay-written
-
-bare-alternative-alternative-requires-3 : (t : ℕ) → bare-alternative-lts.Need-alternative-requires-3 (bare-callees t) (bare-alternative-at t) bare-alternative.Post
-bare-alternative-alternative-requires-3 t c κs = (search guarded-below, (search guarded-numbered, search guarded-operand-known, search guarded-room))
-
 bare-alternative-same-length-2 : (t : ℕ) → bare-alternative-lts.Need-same-length-2 (bare-callees t) (bare-alternative-at t) bare-alternative.Post
 bare-alternative-same-length-2 t c = search needs
 
 bare-alternative-returns-2 : (t : ℕ) → bare-alternative-lts.Need-returns-2 (bare-callees t) (bare-alternative-at t) bare-alternative.Post
-bare-alternative-returns-2 t c = search throughout-written
+bare-alternative-returns-2 t c =
+    let two = c .before .before in
+    let one = two .before .before .before .before in
+    let parts = one .before .before in
+    let kind = parts .before in
+    let node = kind .before .before .before .before in
+    let given = node .before .before .before .before .pre .1 in
+    delay-written _ _ _ (given .0) (given .1) (given .2) (node .read .ensures) (kind .if2 .taken) (parts .delay-parts .ensures) (one .alternative .ensures) (two .alternative2 .ensures)
+
+bare-alternative-alternative-requires-3 : (t : ℕ) → bare-alternative-lts.Need-alternative-requires-3 (bare-callees t) (bare-alternative-at t) bare-alternative.Post
+bare-alternative-alternative-requires-3 t c κs = (search guarded-below, (search guarded-numbered, search guarded-operand-known, search guarded-room))
+
+bare-alternative-same-length-3 : (t : ℕ) → bare-alternative-lts.Need-same-length-3 (bare-callees t) (bare-alternative-at t) bare-alternative.Post
+bare-alternative-same-length-3 t c = search needs
+
+bare-alternative-returns-3 : (t : ℕ) → bare-alternative-lts.Need-returns-3 (bare-callees t) (bare-alternative-at t) bare-alternative.Post
+bare-alternative-returns-3 t c = search throughout-written
 
 bare-alternative-made-of-copies-requires : (t : ℕ) → bare-alternative-lts.Need-made-of-copies-requires (bare-callees t) (bare-alternative-at t) bare-alternative.Post
 bare-alternative-made-of-copies-requires t c κs = search needs
@@ -122,29 +138,36 @@ bare-alternative-made-of-copies-requires t c κs = search needs
 bare-alternative-copies-block-requires : (t : ℕ) → bare-alternative-lts.Need-copies-block-requires (bare-callees t) (bare-alternative-at t) bare-alternative.Post
 bare-alternative-copies-block-requires t c κs =
     let m = c .before in
-    let r = m .before .before .before .before .before in
-    copies-counts (search needs) (search needs) (r .read .ensures) (copied _ _ (m .made-of-copies .ensures) (c .if3 .taken))
+    let r = m .before .before .before .before .before .before .before in
+    copies-counts (search needs) (search needs) (r .read .ensures) (copied _ _ (m .made-of-copies .ensures) (c .if4 .taken))
 
 bare-alternative-repeated-requires : (t : ℕ) → bare-alternative-lts.Need-repeated-requires (bare-callees t) (bare-alternative-at t) bare-alternative.Post
 bare-alternative-repeated-requires t c κs = (search (block-below, copied), (search (block-numbered, copied), search (base-known, copied), search (block-room, copied)))
-
-bare-alternative-same-length-3 : (t : ℕ) → bare-alternative-lts.Need-same-length-3 (bare-callees t) (bare-alternative-at t) bare-alternative.Post
-bare-alternative-same-length-3 t c = search needs
-
-bare-alternative-returns-3 : (t : ℕ) → bare-alternative-lts.Need-returns-3 (bare-callees t) (bare-alternative-at t) bare-alternative.Post
-bare-alternative-returns-3 t c = search (block-written, copied)
-
-bare-alternative-single-term-requires : (t : ℕ) → bare-alternative-lts.Need-single-term-requires (bare-callees t) (bare-alternative-at t) bare-alternative.Post
-bare-alternative-single-term-requires t c κs = search operand-inside
-
-bare-alternative-store-requires : (t : ℕ) → bare-alternative-lts.Need-store-requires (bare-callees t) (bare-alternative-at t) bare-alternative.Post
-bare-alternative-store-requires t c κs = search single-room
 
 bare-alternative-same-length-4 : (t : ℕ) → bare-alternative-lts.Need-same-length-4 (bare-callees t) (bare-alternative-at t) bare-alternative.Post
 bare-alternative-same-length-4 t c = search needs
 
 bare-alternative-returns-4 : (t : ℕ) → bare-alternative-lts.Need-returns-4 (bare-callees t) (bare-alternative-at t) bare-alternative.Post
-bare-alternative-returns-4 t c = search single-written
+bare-alternative-returns-4 t c =
+    let copies = c .before .before in
+    let block = copies .before .before in
+    let told = block .before in
+    let made = told .before in
+    let node = made .before .before .before .before .before .before .before in
+    let given = node .before .before .before .before .pre .1 in
+    block-written _ _ _ (given .0) (given .1) (given .2) (node .read .ensures) (copied _ _ (made .made-of-copies .ensures) (told .if4 .taken)) (block .copies-block .ensures) (copies .repeated .ensures)
+
+bare-alternative-single-term-requires : (t : ℕ) → bare-alternative-lts.Need-single-term-requires (bare-callees t) (bare-alternative-at t) bare-alternative.Post
+bare-alternative-single-term-requires t c κs = (search operand-inside, search needs)
+
+bare-alternative-store-requires-2 : (t : ℕ) → bare-alternative-lts.Need-store-requires-2 (bare-callees t) (bare-alternative-at t) bare-alternative.Post
+bare-alternative-store-requires-2 t c κs = search single-room
+
+bare-alternative-same-length-5 : (t : ℕ) → bare-alternative-lts.Need-same-length-5 (bare-callees t) (bare-alternative-at t) bare-alternative.Post
+bare-alternative-same-length-5 t c = search needs
+
+bare-alternative-returns-5 : (t : ℕ) → bare-alternative-lts.Need-returns-5 (bare-callees t) (bare-alternative-at t) bare-alternative.Post
+bare-alternative-returns-5 t c = search single-written
 
 abbrev repeated-Inv-loop : repeated-lts.InvT-loop
 repeated-Inv-loop t outline n k i work₀ at hop₀ place₀ left₀ work hop place left =
@@ -193,23 +216,26 @@ pub +alternative+bare-alternative+repeated-spec : {M : Type 1} → statement M
     (bare-alternative-at t)
     bare-alternative.Post
     (bare-alternative-read-requires t)
+    (bare-alternative-store-requires t)
+    (bare-alternative-same-length t)
+    (bare-alternative-returns t)
     (bare-alternative-delay-parts-requires t)
     (bare-alternative-alternative-requires t)
     (bare-alternative-alternative-requires-2 t)
-    (bare-alternative-same-length t)
-    (bare-alternative-returns t)
-    (bare-alternative-alternative-requires-3 t)
     (bare-alternative-same-length-2 t)
     (bare-alternative-returns-2 t)
+    (bare-alternative-alternative-requires-3 t)
+    (bare-alternative-same-length-3 t)
+    (bare-alternative-returns-3 t)
     (bare-alternative-made-of-copies-requires t)
     (bare-alternative-copies-block-requires t)
     (bare-alternative-repeated-requires t)
-    (bare-alternative-same-length-3 t)
-    (bare-alternative-returns-3 t)
-    (bare-alternative-single-term-requires t)
-    (bare-alternative-store-requires t)
     (bare-alternative-same-length-4 t)
-    (bare-alternative-returns-4 t))
+    (bare-alternative-returns-4 t)
+    (bare-alternative-single-term-requires t)
+    (bare-alternative-store-requires-2 t)
+    (bare-alternative-same-length-5 t)
+    (bare-alternative-returns-5 t))
     λ t. repeated-lts.spec (copies-callees t)
     (repeated-at t)
     repeated.Post

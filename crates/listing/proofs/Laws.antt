@@ -84,6 +84,20 @@ pub end-row : (o : ℕ) → 9 ≤ o → o ≤ 14 → row-of o ≡ row 1 0
 unfolding rows
 end-row o h k = rows-in 8 6 (row 1 0) [] refl o h k
 
+-- So the row of one operation of a kind is that of each.
+module _ {o : ℕ} {r : Row} where
+  pub a-value-for-each : r ≡ row-of 1 → 1 ≤ o → o < 5 → r ≡ row-of o
+  a-value-for-each e h k = e ∙ value-row 1 (omega arith) (omega arith) ∙ sym (value-row o h (omega arith))
+
+  pub a-change-for-each : r ≡ row-of 5 → 5 ≤ o → o < 7 → r ≡ row-of o
+  a-change-for-each e h k = e ∙ change-row 5 (omega arith) (omega arith) ∙ sym (change-row o h (omega arith))
+
+  pub a-join-for-each : r ≡ row-of 7 → 7 ≤ o → o < 9 → r ≡ row-of o
+  a-join-for-each e h k = e ∙ join-row 7 (omega arith) (omega arith) ∙ sym (join-row o h (omega arith))
+
+  pub an-end-for-each : r ≡ row-of 9 → 9 ≤ o → o ≤ 14 → r ≡ row-of o
+  an-end-for-each e h k = e ∙ end-row 9 (omega arith) (omega arith) ∙ sym (end-row o h k)
+
 -- A word raises the stack by one at most.
 pub height-rises-by-one : (h w : ℕ) → height h w ≤ h + 1
 height-rises-by-one h w = omega (arith, leaves-one (operation w))

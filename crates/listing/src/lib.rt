@@ -59,6 +59,24 @@ pub fn row(o: u32) -> meaning::Row
     ROWS[(o - 1) as usize]
 }
 
+// The same, by the kind of the operation. The compiled code lays the table out anew at each look-up, but the row of a constant costs nothing
+// at run time.
+fn row_by_kind(o: u32) -> meaning::Row
+    requires { ⌜ (1 ≤ o) × (o ≤ 14) ⌝ }
+    ensures { λ r. ⌜ r ≡ row-of o ⌝ }
+{
+    if o < 5 {
+        return row(1);
+    }
+    if o < 7 {
+        return row(5);
+    }
+    if o < 9 {
+        return row(7);
+    }
+    row(9)
+}
+
 // Whether the word is a register's store.
 pub fn is_store(w: u32) -> bool
     ensures { λ r. ⌜ r ≡ is-store w ⌝ }
@@ -86,7 +104,7 @@ pub fn height_with(height: usize, w: u32) -> usize
     requires { ⌜ (OperandFound height w) × (height < 2 ^ 63) ⌝ }
     ensures { λ r. ⌜ r ≡ height-of height w ⌝ }
 {
-    let row = row(w / 16777216);
+    let row = row_by_kind(w / 16777216);
     height - row.takes as usize + row.leaves as usize
 }
 

@@ -4,8 +4,8 @@ use borrow.Author.Needs.{needs}
 use Rattle.listing.proofs.height_with.Statement.{statement}
 use Rattle.listing.proofs.height_with.Tie as tie
 
-row-requires : tie.Need-row-requires
-row-requires c κs = search needs
+row-by-kind-requires : tie.Need-row-by-kind-requires
+row-by-kind-requires c κs = search needs
 
 cast-result : tie.Need-cast-result
 cast-result c = search needs
@@ -24,4 +24,4 @@ returns c = search height-by-row
 
 pub height-with-spec : {M : Type 1} → statement M
 height-with-spec =
-    tie.close (tie.spec row-requires cast-result sub-result cast-result-2 add-result returns)
+    tie.close (tie.spec row-by-kind-requires cast-result sub-result cast-result-2 add-result returns)

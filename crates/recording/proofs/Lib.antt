@@ -1,0 +1,5 @@
+pub mod Trees
+pub mod Rows
+pub mod Judging
+pub mod Laws
+pub mod RefusalNumbers

@@ -17,12 +17,15 @@ use Rattle.text.proofs.text as text
 use Rattle.little_endian.proofs.read as read
 use Rattle.lowered_text.proofs.print as print
 use Rattle.lowered_text.proofs.print_input as print-input
+use Rattle.cases.proofs.until as until
+use Rattle.cases.proofs.numbers as numbers
+use Rattle.cases.proofs.lesser as lesser
 use Rattle.tool.proofs.asked_by as asked-by
 use Rattle.tool.proofs.status_after as status-after
 use Rattle.tool.proofs.put_usage as put-usage
 use Rattle.listing_program.proofs.status_of as status-of
 use Rattle.demands.specs.OneOutcome.{OneOutcome}
-use Rattle.demands.proofs.OneOutcome.{same-outcome, same, from-both, from-all, by-an-equation, by-writing}
+use Rattle.demands.proofs.OneOutcome.{same-outcome, same, from-both, from-all, by-an-equation, by-an-equation-and-a-bound, by-writing, by-writing-and-a-bound}
 
 -- What is shown is an answer and where its text ends.
 shows-the-same : {answer : Lowered} {text page page′ page″ : List ℕ} {shown shown′ : Shown}
@@ -47,6 +50,16 @@ module _ {M : Type 1} (𝓤 : URA M) (H : Heap 𝓤) (A : Atoms 𝓤) (mem : Mem
   pub lowered-text-print-input-has-one-outcome : OneOutcome 𝓤 print-input.ended (print-input.clauses 𝓤 H A mem run)
   lowered-text-print-input-has-one-outcome κs a g o o′ =
       from-all 𝓤 (λ p b p′ b′. same-outcome (λ page. (tt, (page, tt))) (shows-the-same p p′) (same (p .stands .holds) (p′ .stands .holds)))
+
+  -- What is read from a text.
+  pub cases-until-has-one-outcome : OneOutcome 𝓤 until.ended (until.clauses 𝓤 H A mem run)
+  cases-until-has-one-outcome κs a g o o′ = by-an-equation-and-a-bound 𝓤
+
+  pub cases-numbers-has-one-outcome : OneOutcome 𝓤 numbers.ended (numbers.clauses 𝓤 H A mem run)
+  cases-numbers-has-one-outcome κs a g o o′ = by-writing-and-a-bound 𝓤 (λ out. (tt, (out, tt)))
+
+  pub cases-lesser-has-one-outcome : OneOutcome 𝓤 lesser.ended (lesser.clauses 𝓤 H A mem run)
+  cases-lesser-has-one-outcome κs a g o o′ = by-an-equation 𝓤
 
   -- What a command line asks for, and the statuses of an answer and of a program.
   pub tool-asked-by-has-one-outcome : OneOutcome 𝓤 asked-by.ended (asked-by.clauses 𝓤 H A mem run)

@@ -14,84 +14,6 @@ ghost use lib.ListN.{length};
 // What lent words are filled with: not zero, and no word of a listing.
 const FILLED: u32 = 0x5a5a_5a5a;
 
-// Where the byte next stands from the place on, or the text's end.
-fn until(text: &[u8], from: usize, byte: u8) -> usize
-    requires { ⌜ from ≤ length (now text) ⌝ }
-    ensures { λ r. ⌜ (from ≤ r) × (r ≤ length (now (text .entry))) ⌝ }
-{
-    let mut i = from;
-    while i < text.len() {
-        if text[i] == byte {
-            return i;
-        }
-        i += 1;
-    }
-    i
-}
-
-// A number with one more digit, at most 4,294,967,295. Any other byte changes nothing.
-fn with_digit(value: u32, digit: u8) -> u32 {
-    if digit < b'0' {
-        return value;
-    }
-    if b'9' < digit {
-        return value;
-    }
-    let longer = value as u64 * 10 + (digit - b'0') as u64;
-    if 4294967295 < longer {
-        return 4294967295;
-    }
-    longer as u32
-}
-
-// The number that the digits write.
-fn number(digits: &[u8]) -> u32 {
-    let mut value = 0;
-    let mut i = 0;
-    while i < digits.len() {
-        value = with_digit(value, digits[i]);
-        i += 1;
-    }
-    value
-}
-
-// Puts the number at the place, if there are digits and room; the next place.
-fn add(digits: &[u8], numbers: &mut [u32], place: usize) -> usize
-    requires { ⌜ place ≤ length (now numbers) ⌝ }
-    ensures { λ next. ⌜ next ≤ length (now (numbers .exit)) ⌝ }
-{
-    if digits.len() == 0 {
-        return place;
-    }
-    if numbers.len() <= place {
-        return place;
-    }
-    numbers[place] = number(digits);
-    place + 1
-}
-
-// The numbers of a line, put from the front on; how many there are.
-fn parsed(line: &[u8], numbers: &mut [u32]) -> usize
-    ensures { λ count. ⌜ count ≤ length (now (numbers .exit)) ⌝ }
-{
-    let mut count = 0;
-    let mut from = 0;
-    while from < line.len() {
-        let end = until(line, from, b' ');
-        count = add(&line[from..end], numbers, count);
-        from = end + 1;
-    }
-    count
-}
-
-// A size that is asked for, at most what there is.
-fn smaller(asked: u32, most: usize) -> usize
-    ensures { λ r. ⌜ r ≤ most ⌝ }
-{
-    let size = asked as usize;
-    if size < most { size } else { most }
-}
-
 // Whether the word stands at every place from `from` on.
 fn only(word: u32, words: &[u32], from: usize) -> bool {
     let mut i = from;
@@ -104,7 +26,8 @@ fn only(word: u32, words: &[u32], from: usize) -> bool {
     true
 }
 
-// Says what is not as promised: work is all zero, the output is as it was past the words written, and they are as 01 describes.
+// Says so where it is not as promised: that work is all zero, the output past the words written is as it was, and these are as 01
+// describes.
 fn inspect(words: usize, work: &[u32], out: &[u32])
     requires { ⌜ words ≤ length (now out) ⌝ }
 {
@@ -163,17 +86,18 @@ fn lowered(tree: &[u32], work: &mut [u32], out: &mut [u32]) {
     show(answer, out);
 }
 
-// A case's numbers, with the work and the output that it may ask for. There is room for a node more than a tree may have.
+// A case's numbers, with the work and the output that it asks for, as far as there are. The numbers have room for 4,097 nodes, one more
+// than a tree may have.
 fn replay_tree(line: &[u8], work: &mut [u32], out: &mut [u32]) {
     let mut numbers = [0u32; 20487];
-    let count = parsed(line, &mut numbers);
+    let count = cases::numbers(line, &mut numbers);
     let first = 2;
     if count < first {
         io::write_all(1, b"no tree\n");
         return;
     }
-    let work_end = smaller(numbers[0], work.len());
-    let out_end = smaller(numbers[1], out.len());
+    let work_end = cases::lesser(numbers[0], work.len());
+    let out_end = cases::lesser(numbers[1], out.len());
     lowered(
         &numbers[first..count],
         &mut work[..work_end],
@@ -210,7 +134,7 @@ fn replay(input: &[u8]) {
     let mut named = false;
     let mut from = 0;
     while from < input.len() {
-        let end = until(input, from, b'\n');
+        let end = cases::until(input, from, b'\n');
         named = replay_line(&input[from..end], named);
         from = end + 1;
     }

@@ -1,10 +1,12 @@
 -- `main` lends its array whole, and replays the part that was read.
-use Rattle.trees_replayed.proofs.Laws.{filled}
+use mathlib.Core.Path.{sym}
+use Prim.Native.Nat.{ℕ}
+use lib.ListN.{length-replicate}
 use Rattle.trees_replayed.proofs.main.Statement.{statement}
 use Rattle.trees_replayed.proofs.main.Tie as tie
 
 slice-aggregate-read-full : tie.Need-slice-aggregate-read-full
-slice-aggregate-read-full c = filled 1572864 0
+slice-aggregate-read-full c = sym (length-replicate {A = ℕ} 1572864 0)
 
 read-full-requires : tie.Need-read-full-requires
 read-full-requires c κs = tt

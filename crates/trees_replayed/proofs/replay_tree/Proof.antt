@@ -1,16 +1,17 @@
 -- `replay_tree` lends no more than there is.
 use mathlib.Core.Path.{sym}
+use Prim.Native.Nat.{ℕ}
+use lib.ListN.{length-replicate}
 use lib.Seq.{length-take-le}
-use Rattle.trees_replayed.proofs.Laws.{filled}
 use borrow.Author.Needs.{needs}
 use Rattle.trees_replayed.proofs.replay_tree.Statement.{statement}
 use Rattle.trees_replayed.proofs.replay_tree.Tie as tie
 
-slice-aggregate-parsed : tie.Need-slice-aggregate-parsed
-slice-aggregate-parsed c = filled 20487 0
+slice-aggregate-numbers : tie.Need-slice-aggregate-numbers
+slice-aggregate-numbers c = sym (length-replicate {A = ℕ} 20487 0)
 
-parsed-requires : tie.Need-parsed-requires
-parsed-requires c κs = tt
+numbers-requires : tie.Need-numbers-requires
+numbers-requires c κs = tt
 
 slice-aggregate-write-all : tie.Need-slice-aggregate-write-all
 slice-aggregate-write-all c = search needs
@@ -21,17 +22,17 @@ write-all-requires c κs = tt
 returns : tie.Need-returns
 returns c = tt
 
-array-read-smaller : tie.Need-array-read-smaller
-array-read-smaller c = search needs
+array-read-lesser : tie.Need-array-read-lesser
+array-read-lesser c = search needs
 
-smaller-requires : tie.Need-smaller-requires
-smaller-requires c κs = tt
+lesser-requires : tie.Need-lesser-requires
+lesser-requires c κs = tt
 
-array-read-smaller-2 : tie.Need-array-read-smaller-2
-array-read-smaller-2 c = search needs
+array-read-lesser-2 : tie.Need-array-read-lesser-2
+array-read-lesser-2 c = search needs
 
-smaller-requires-2 : tie.Need-smaller-requires-2
-smaller-requires-2 c κs = tt
+lesser-requires-2 : tie.Need-lesser-requires-2
+lesser-requires-2 c κs = tt
 
 mul-lowered : tie.Need-mul-lowered
 mul-lowered c = search needs
@@ -70,15 +71,15 @@ pub replay-tree-spec : {M : Type 1} → statement M
 replay-tree-spec =
     tie.close
     (tie.spec
-    slice-aggregate-parsed
-    parsed-requires
+    slice-aggregate-numbers
+    numbers-requires
     slice-aggregate-write-all
     write-all-requires
     returns
-    array-read-smaller
-    smaller-requires
-    array-read-smaller-2
-    smaller-requires-2
+    array-read-lesser
+    lesser-requires
+    array-read-lesser-2
+    lesser-requires-2
     mul-lowered
     part-lowered-start
     part-lowered-end

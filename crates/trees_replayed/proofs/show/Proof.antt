@@ -1,14 +1,15 @@
 -- `show` writes the part of the page that the text takes.
 use mathlib.Core.Path.{sym}
+use Prim.Native.Nat.{ℕ}
+use lib.ListN.{length-replicate}
 use lib.Seq.{length-take-le}
 use borrow.Author.Needs.{needs}
 use Rattle.text.proofs.Room.{printed-ends-inside}
-use Rattle.trees_replayed.proofs.Laws.{filled}
 use Rattle.trees_replayed.proofs.show.Statement.{statement}
 use Rattle.trees_replayed.proofs.show.Tie as tie
 
 slice-aggregate-text : tie.Need-slice-aggregate-text
-slice-aggregate-text c = filled 524416 0
+slice-aggregate-text c = sym (length-replicate {A = ℕ} 524416 0)
 
 text-requires : tie.Need-text-requires
 text-requires c κs = tt

@@ -1,19 +1,19 @@
--- `parsed` stays inside the line and the numbers: less of the line is left each turn.
+-- The loop reads a word up to the blank behind it, and puts its number.
 use borrow.Author.Needs.{needs}
-use Prim.Native.Nat.{_-_, _≤_}
-use mathlib.Core.Path.{_≡_}
+use Prim.Native.Nat.{_-_}
 use lib.ListN.{length}
-use Rattle.trees_replayed.proofs.parsed.Statement.{statement}
-use Rattle.trees_replayed.proofs.parsed.Tie as tie
+use Rattle.cases.proofs.Laws.{Reading, reading-begins, reading-on, reading-ends}
+use Rattle.cases.proofs.numbers.Statement.{statement}
+use Rattle.cases.proofs.numbers.Tie as tie
 
 abbrev Inv-loop : tie.InvT-loop
-Inv-loop line numbers₀ count₀ from₀ numbers count from = (length numbers ≡ length numbers₀) × (count ≤ length numbers)
+Inv-loop line out₀ count₀ from₀ out count from = Reading line out₀ out count from
 
 abbrev μ-loop : tie.MeasureT-loop
-μ-loop line numbers₀ count₀ from₀ numbers count from = length line - from
+μ-loop line out₀ count₀ from₀ out count from = length line - from
 
 loop-holds : tie.Need-loop-holds Inv-loop μ-loop
-loop-holds c = search needs
+loop-holds c = search reading-begins
 
 until-requires : tie.Need-until-requires Inv-loop μ-loop
 until-requires c κs = search needs
@@ -37,16 +37,16 @@ loop-less : tie.Need-loop-less Inv-loop μ-loop
 loop-less c = search needs
 
 loop-again : tie.Need-loop-again Inv-loop μ-loop
-loop-again c = search needs
+loop-again c = search reading-on
 
 same-length : tie.Need-same-length Inv-loop μ-loop
 same-length c = search needs
 
 returns : tie.Need-returns Inv-loop μ-loop
-returns c = search needs
+returns c = (search reading-ends, search needs)
 
-pub parsed-spec : {M : Type 1} → statement M
-parsed-spec =
+pub numbers-spec : {M : Type 1} → statement M
+numbers-spec =
     tie.close
     (tie.spec
     Inv-loop

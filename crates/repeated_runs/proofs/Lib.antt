@@ -1,0 +1,4 @@
+pub mod Copies
+pub mod Closing
+pub mod Rows
+pub mod Repeating

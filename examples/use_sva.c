@@ -1,4 +1,4 @@
-/* Lowers `a ##1 b`, steps it over a few ticks, looks its register up, and has one tree refused. Status 0 where all went as it
+/* Lowers `a ##1 b`, steps it over a few ticks, looks its register up, matches it over the same ticks, and has one tree refused. Status 0 where all went as it
  * should, 1 where a tree was not answered so, 2 where the output failed. From the repository's root:
  *
  *   rt staticlib sva_c && gcc -std=c11 -Wall -Wextra -Iinclude examples/use_sva.c target/staticlib/libsva_c.a -o target/use_sva && target/use_sva
@@ -76,6 +76,25 @@ static uint32_t run(const struct listing *l)
     return 0;
 }
 
+/* Matches a tree over ATOMS as a recording, and prints the answers; 0, or a refusal's number. */
+static uint32_t matched(const char *name, const uint32_t *tree, size_t tree_len)
+{
+    uint8_t answers[COUNT(ATOMS)] = {0}, work[3 * (COUNT(ATOMS) + 1) * (COUNT(ATOMS) + 1)] = {0};
+    size_t ticks = 0, place = 0;
+    uint32_t number = sva_matches(tree, tree_len, ATOMS[0], sizeof ATOMS, sizeof ATOMS[0], answers, sizeof answers, work, sizeof work, &ticks,
+                                  &place);
+    if (number != 0) {
+        printf("%s: matching refused with %" PRIu32 " at %zu\n", name, number, place);
+        return number;
+    }
+    printf("%s: over %zu recorded ticks a match ends at", name, ticks);
+    for (size_t tick = 0; tick < ticks; tick++)
+        if (answers[tick])
+            printf(" %zu", tick);
+    printf("\n");
+    return 0;
+}
+
 int main(void)
 {
     struct listing l = {0};
@@ -88,6 +107,8 @@ int main(void)
     size_t length = sva_stretch(l.words, l.length, 0, &start);
     printf("register 0 is driven by %zu words from word %zu on\n", length, start);
     print_words("register 0", &l, start, length);
+    if (matched("a ##1 b", A_THEN_B, COUNT(A_THEN_B)) != 0)
+        return 1;
     if (lowered("a ##[2:1] b", EMPTY_RANGE, COUNT(EMPTY_RANGE), &l))
         return 1;
     if (fflush(stdout) != 0 || ferror(stdout)) {

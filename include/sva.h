@@ -1,7 +1,8 @@
 /* SPDX-License-Identifier: MIT OR Apache-2.0
  *
  * Temporal assertions as one-bit registers: a sequence, given as a tree of numbers, is lowered to a listing, and the
- * listing is stepped once a tick. The functions are proved; what is promised here is what their contracts say
+ * listing is stepped once a tick. Beside it a matcher, which tells at which recorded ticks a sequence ended a match, and
+ * does not lean on the lowering. The functions are proved; what is promised here is what their contracts say
  * (crates/sva_c/specs/Boundary.antt). examples/use_sva.c has a whole use.
  *
  * The library keeps nothing between calls, takes no heap and writes only where a comment says so. Every content and every
@@ -48,7 +49,7 @@ extern "C" {
 /* `$`, as the max of a delay or of a consecutive repetition. */
 #define SVA_UNBOUNDED UINT32_C(4294967295)
 
-/* The bytes of stack that a call may take: sva_lower by the depth of the tree, the other two far less. Counted over the archive's machine
+/* The bytes of stack that a call may take: sva_lower by the depth of the tree, the others far less. Counted over the archive's machine
  * code, not proved (docs/PROOFS.md). */
 #define SVA_STACK 65536
 
@@ -109,6 +110,31 @@ uint32_t sva_tick(const uint32_t *listing, size_t listing_len, const uint8_t *no
  * such register.
  */
 size_t sva_stretch(const uint32_t *listing, size_t listing_len, uint32_t reg, size_t *start);
+
+/* Tells at which recorded ticks a match of a tree ends, as IEEE 1800 defines a match. It looks at the tree and at the recording alone, so
+ * that it can judge the lowering too. A tree has at most 64 nodes here; all kinds may stand anywhere, and counts and delays of up to
+ * 4,294,967,294 are answered like small ones.
+ *
+ * tree     the tree's words.
+ * rows     the recording: ticks times width bytes, row by row; the byte of atom a at tick t is rows[t * width + a], 0 or 1.
+ * width    how many atoms a row has.
+ * answers  takes a byte a tick: 1 exactly where some match that has a tick, and began at tick 0 or later, ends at that tick, and else 0. Past the
+ *          ticks, and on a refusal, it is unchanged.
+ * work     nodes * (ticks + 1) * (ticks + 1) bytes or more, whatever they hold. All zero after every call.
+ *
+ * Returns 0, with *ticks the ticks of the recording and *place 0; no tick at all is no fault. Or returns the number of a refusal, with
+ * *ticks 0 and *place as the table says, the first that applies:
+ *
+ *      1  as in sva_lower; also more than 64 nodes (place 0)
+ *      2  as in sva_lower
+ *      3  as in sva_lower
+ *      6  [->] or [=] over what is no atom (the lowest node)
+ *     17  a width of 0, rows that are no multiple of it, more than 256 ticks, a byte of rows above 1, or an atom or condition of the
+ *         tree that is not below the width (0)
+ *     18  answers shorter than the ticks, or too little work (0)
+ */
+uint32_t sva_matches(const uint32_t *tree, size_t tree_len, const uint8_t *rows, size_t rows_len, size_t width, uint8_t *answers,
+                     size_t answers_len, uint8_t *work, size_t work_len, size_t *ticks, size_t *place);
 
 #ifdef __cplusplus
 }

@@ -5,6 +5,8 @@ pub mod EveryListingRuns
 pub mod TheStandardIsMet
 pub mod TheStandardIsMetForC
 pub mod TheUsersPremise
+pub mod TheMatcherAgrees
+pub mod TheMatcherAgreesForC
 pub mod UnnamedAtomsChangeNothing
 pub mod Premises
 pub mod OneOutcome
@@ -13,5 +15,6 @@ pub mod AlternativesHaveOneOutcome
 pub mod RootsHaveOneOutcome
 pub mod ListingsHaveOneOutcome
 pub mod TextsHaveOneOutcome
+pub mod TheMatcherHasOneOutcome
 pub mod TheCBoundaryHasOneOutcome
 pub mod CorrectionHasOneOutcome

@@ -26,7 +26,8 @@ use Rattle.meaning.proofs.ListingAnswer.{a-listed-table-passed-all}
 use Rattle.meaning.proofs.Demand3 as definitions
 use Rattle.lower.specs.Answers.{Lowers}
 use Rattle.words.proofs.Laws.{front-written}
-use Rattle.demands.specs.Shipped.{RunsAsShipped, AMatchEnds, IsABit, MeetsTheStandard}
+use Rattle.matches.specs.Answers.{AMatchEnds}
+use Rattle.demands.specs.Shipped.{RunsAsShipped, IsABit, MeetsTheStandard}
 use Rattle.demands.proofs.MatchesLookNoFurther.{matches-look-no-further}
 use Rattle.demands.proofs.RunsGoOn.{answer-from, stored-from, gone-on, the-same-until-last, goes-on-for-good}
 

@@ -7,15 +7,13 @@ use mathlib.Core.Logic.{_↔_, _⊎_}
 use mathlib.Core.List.{List}
 use Prim.Native.Nat.{ℕ, zero, suc, _≤_, _<_}
 use lib.ListN.{length, getD, take, replicate}
-use Rattle.meaning.specs.Tree.{root}
-use Rattle.meaning.specs.Match.{Match}
 use Rattle.meaning.specs.Listing.{Names, atoms-named}
-use Rattle.meaning.specs.Demand3.{trace}
 use Rattle.meaning.specs.declared.Lowered.the-variants.{Listing}
 use Rattle.meaning.specs.declared.Ticked.{Ticked}
 use Rattle.meaning.specs.declared.Ticked.the-variants.{Match as MatchBit}
 use Rattle.lower.specs.Answers.{Lowers}
 use Rattle.tick.specs.Stepped.{Stepped}
+use Rattle.matches.specs.Answers.{AMatchEnds}
 
 -- What is lent at each of so many ticks, to a listing of so many registers and this deepest stack. What stands at tick n is cur n, and
 -- so for all that is lent then; next′ n is what next n holds after the call.
@@ -40,10 +38,6 @@ pub record RunsAsShipped (ticks : ℕ) (tree work work′ out out′ : List ℕ)
   pub ticked : (n : ℕ) → n < ticks → Stepped (take words out′) (cur n) (atoms n) (next n) (next′ n) (stack n) (stack′ n) (answer n)
   -- What the caller lends.
   pub lent : Lent ticks (take words out′) registers deepest cur atoms next next′ stack
-
--- Some match of the tree, as the standard defines it, began at tick 0 or later and ends at tick n.
-abbrev pub AMatchEnds : List ℕ → (ℕ → List ℕ) → ℕ → Type 0
-AMatchEnds tree atoms n = (i : ℕ) × (i ≤ n) × Match (trace atoms) (root tree) i (suc n)
 
 -- An answer that is no refusal.
 abbrev pub IsABit : Ticked → Type 0

@@ -6,7 +6,8 @@ use mathlib.Core.List.{List}
 use Prim.Native.Nat.{ℕ, _<_}
 use lib.ListN.{take}
 use Rattle.sva_c.specs.Boundary.{LowersForC, TicksForC}
-use Rattle.demands.specs.Shipped.{Lent, AMatchEnds}
+use Rattle.matches.specs.Answers.{AMatchEnds}
+use Rattle.demands.specs.Shipped.{Lent}
 
 -- At tick n number n is returned, held n is where the match bit goes before the call and matched n after it, and place n is the place.
 pub record RunsForC (ticks : ℕ) (tree work work′ out out′ : List ℕ) (registers words deepest fault : ℕ)

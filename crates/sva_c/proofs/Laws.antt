@@ -1,6 +1,6 @@
--- From the contracts of `lower`, `tick` and `stretch` to what C sees: one law for each way an answer comes apart, as the code
+-- From the contracts of `lower`, `tick`, `stretch` and `matches` to what C sees: one law for each way an answer comes apart, as the code
 -- meets it. They assume nothing.
-use mathlib.Core.Path.{_≡_, sym, ap, _∙_}
+use mathlib.Core.Path.{_≡_, sym, ap, subst, _∙_}
 use mathlib.Core.List.{List}
 use Prim.Native.Nat.{ℕ}
 use lib.ListN.{length}
@@ -14,7 +14,10 @@ use Rattle.meaning.specs.declared.Ticked.the-variants.{Match, Refused as NotTic
 use Rattle.lower.specs.Answers.{Lowers}
 use Rattle.tick.specs.Stepped.{Stepped}
 use Rattle.stretch.specs.Start.{stretch-start}
-use Rattle.sva_c.specs.Boundary.{lowered-number, lowered-registers, lowered-words, lowered-deepest, lowered-place, LowersForC, ticked-number, match-after, ticked-place, TicksForC, StretchesForC}
+use Rattle.recording.specs.declared.Matched.{Matched}
+use Rattle.recording.specs.declared.Matched.the-variants.{Ticks, Refused as NotMatched}
+use Rattle.matches.specs.Answers.{Holds, Matches}
+use Rattle.sva_c.specs.Boundary.{lowered-number, lowered-registers, lowered-words, lowered-deepest, lowered-place, LowersForC, ticked-number, match-after, ticked-place, TicksForC, StretchesForC, matched-number, matched-ticks, matched-place, MatchesForC}
 
 module _ {tree work out work-after out-after : List ℕ} {answer : Lowered} (L : Lowers tree 0 work out answer work-after out-after) where
   -- The parts of an answer, once it is known.
@@ -72,3 +75,28 @@ module _ {listing cur atoms next next-held stack stack-held : List ℕ} {answer 
 pub stretched-for-c : (listing : List ℕ) (register : ℕ) {start : ℕ} {part : List ℕ} → start ≡ stretch-start listing register → part ≡ stretch listing register
     → StretchesForC listing register (length part) start
 stretched-for-c listing register s p = record { size-is = ap length p; start-is = s }
+
+module _ {tree rows answers answers-after work work-after : List ℕ} {width : ℕ} {answer : Matched}
+    (M : Matches tree rows width answers answers-after work work-after answer) where
+  -- The parts of an answer, once it is known.
+  matched-apart : {known : Matched} → answer ≡ known
+      → MatchesForC tree rows width answers work (matched-number known) answers-after work-after (matched-ticks known) (matched-place known)
+  matched-apart e =
+      let a = sym e ∙ M .answer-is in
+      record {
+        number-is = ap matched-number a;
+        answers-hold = subst (λ (x : Matched). Holds x tree rows width answers answers-after) (M .answer-is) (M .holds);
+        work-is = M .cleared;
+        ticks-are = ap matched-ticks a;
+        place-is = ap matched-place a;
+      }
+
+  -- So many ticks, with number and place 0.
+  pub matched-for-c : {ticks : ℕ} → answer ≡ Ticks ticks → MatchesForC tree rows width answers work 0 answers-after work-after ticks 0
+  unfolding matched-number matched-ticks matched-place
+  matched-for-c e = matched-apart e
+
+  -- A refusal: its number and place, with no ticks.
+  pub not-matched-for-c : {number place : ℕ} → answer ≡ NotMatched number place → MatchesForC tree rows width answers work number answers-after work-after 0 place
+  unfolding matched-number matched-ticks matched-place
+  not-matched-for-c e = matched-apart e

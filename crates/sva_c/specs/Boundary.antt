@@ -1,7 +1,8 @@
--- What a C program sees of lowering, of a tick and of a stretch: a number for an enum, and plain memory for all else.
+-- What a C program sees of lowering, of a tick, of a stretch and of the matcher: a number for an enum, and plain memory for all else.
 -- Example: for the words of `a ##1 b`, 32 words of work and 8 of output, the number is 0, registers, words and deepest are
 -- 1, 8 and 2, and the place is 0. With 7 words of output the number is 14, and the counts and the place are 0.
--- Each field is an equation of a result, or of what lent memory holds after the call, to the definitions of `meaning`.
+-- Each field is an equation of a result, or of what lent memory holds after the call, to the definitions of `meaning`; of the matcher's answers
+-- it is `Holds`, which says of each byte what it is.
 use mathlib.Core.Path.{_≡_}
 use mathlib.Core.List.{List}
 use Prim.Native.Nat.{ℕ}
@@ -14,6 +15,10 @@ use Rattle.meaning.specs.declared.Lowered.the-variants.{Listing, Refused}
 use Rattle.meaning.specs.declared.Ticked.{Ticked}
 use Rattle.meaning.specs.declared.Ticked.the-variants.{Match, Refused as NotTicked}
 use Rattle.stretch.specs.Start.{stretch-start}
+use Rattle.recording.specs.Refusals.{judged}
+use Rattle.recording.specs.declared.Matched.{Matched}
+use Rattle.recording.specs.declared.Matched.the-variants.{Ticks, Refused as NotMatched}
+use Rattle.matches.specs.Answers.{Holds}
 
 -- The number of a lowering: 0, or the refusal's.
 unfoldable pub lowered-number : Lowered → ℕ
@@ -75,3 +80,26 @@ pub record TicksForC (listing cur atoms next stack : List ℕ) (held number : �
 pub record StretchesForC (listing : List ℕ) (register size start : ℕ) : Type 0 where
   pub size-is : size ≡ length (stretch listing register)
   pub start-is : start ≡ stretch-start listing register
+
+-- The number of a matcher's answer: 0, or the refusal's.
+unfoldable pub matched-number : Matched → ℕ
+matched-number (Ticks ticks) = 0
+matched-number (NotMatched number place) = number
+
+-- Its ticks; zero on a refusal.
+unfoldable pub matched-ticks : Matched → ℕ
+matched-ticks (Ticks ticks) = ticks
+matched-ticks (NotMatched number place) = 0
+
+-- The refusal's place; zero where ticks were answered.
+unfoldable pub matched-place : Matched → ℕ
+matched-place (Ticks ticks) = 0
+matched-place (NotMatched number place) = place
+
+-- What `sva_matches` returns and leaves.
+pub record MatchesForC (tree rows : List ℕ) (width : ℕ) (answers work : List ℕ) (number : ℕ) (answers-after work-after : List ℕ) (ticks place : ℕ) : Type 0 where
+  pub number-is : number ≡ matched-number (judged tree rows width (length answers) (length work))
+  pub answers-hold : Holds (judged tree rows width (length answers) (length work)) tree rows width answers answers-after
+  pub work-is : work-after ≡ replicate (length work) 0
+  pub ticks-are : ticks ≡ matched-ticks (judged tree rows width (length answers) (length work))
+  pub place-is : place ≡ matched-place (judged tree rows width (length answers) (length work))

@@ -1,4 +1,4 @@
-//! Brings three things together: the original's files, which stay where they are; this project's archive; and two files in C.
+//! Brings three things together: the original's files, which stay where they are; this project's archive; and three files in C.
 //!
 //! `SVA_SOURCE` is a folder with the original somewhere below it, `SVA_LIB` the folder of `libsva_c.a`. Both are relative to this folder.
 use std::env;
@@ -61,15 +61,16 @@ fn link_archive(library: &Path) {
     println!("cargo:rustc-link-lib=static=sva_c");
 }
 
-/// Compiles and links the interpreter that the benchmark holds the tick against, and the calls on a small stack.
+/// Compiles and links what the benchmark holds the tick and the matcher against, and the calls on a small stack. The matcher's loops over
+/// a row are worth a compiler's best: `-O3`, as for the archive.
 fn compile_c(out: &Path) {
     println!("cargo:rerun-if-changed=../include/sva.h");
     let archive = out.join("libplain.a");
     let _ = fs::remove_file(&archive);
-    for name in ["interpreter", "small_stack"] {
+    for (name, level) in [("interpreter", "-O2"), ("small_stack", "-O2"), ("matcher", "-O3")] {
         let object = out.join(format!("{name}.o"));
         println!("cargo:rerun-if-changed=c/{name}.c");
-        run(Command::new("gcc").args(["-std=c11", "-Wall", "-Wextra", "-O2", "-c", "-o"]).arg(&object).arg(format!("c/{name}.c")));
+        run(Command::new("gcc").args(["-std=c11", "-Wall", "-Wextra", level, "-c", "-o"]).arg(&object).arg(format!("c/{name}.c")));
         run(Command::new("ar").arg("rcs").arg(&archive).arg(&object));
     }
     println!("cargo:rustc-link-search=native={}", out.display());

@@ -11,7 +11,8 @@
 /* What stands on the stack before a call, and what the thread itself may take of it above the bytes that are left. */
 enum { UNTOUCHED = 0xa5, OWN = 131072 };
 
-/* A call, what it answered, and how many bytes of stack it had and wrote to; `which` is 0 for lower, 1 for tick, 2 for stretch. */
+/* A call, what it answered, and how many bytes of stack it had and wrote to; `which` is 0 for lower, 1 for tick, 2 for stretch,
+ * 3 for matches. */
 struct call {
     uint32_t which;
     uint32_t number;
@@ -29,6 +30,12 @@ struct call {
     size_t next_len;
     uint8_t *stack;
     size_t stack_len;
+    const uint8_t *rows;
+    size_t rows_len, width;
+    uint8_t *answers;
+    size_t answers_len;
+    uint8_t *tables;
+    size_t tables_len;
     size_t registers, counted, deepest, place;
     uint8_t matched;
     unsigned char *floor;
@@ -54,8 +61,11 @@ static void *called(void *given)
     else if (c->which == 1)
         c->number = sva_tick(c->words, c->words_len, c->now, c->now_len, c->atoms, c->atoms_len, c->next, c->next_len, c->stack,
                              c->stack_len, &c->matched, &c->place);
-    else
+    else if (c->which == 2)
         c->counted = sva_stretch(c->words, c->words_len, c->number, &c->place);
+    else
+        c->number = sva_matches(c->words, c->words_len, c->rows, c->rows_len, c->width, c->answers, c->answers_len, c->tables,
+                                c->tables_len, &c->counted, &c->place);
     return NULL;
 }
 

@@ -22,6 +22,13 @@ struct Call {
     next_len: usize,
     stack: *mut u8,
     stack_len: usize,
+    rows: *const u8,
+    rows_len: usize,
+    width: usize,
+    answers: *mut u8,
+    answers_len: usize,
+    tables: *mut u8,
+    tables_len: usize,
     registers: usize,
     counted: usize,
     deepest: usize,
@@ -34,6 +41,7 @@ struct Call {
 const LOWER: u32 = 0;
 const TICK: u32 = 1;
 const STRETCH: u32 = 2;
+const MATCHES: u32 = 3;
 
 extern "C" {
     fn promised_stack() -> usize;
@@ -71,6 +79,13 @@ impl SmallStack {
             next_len: 0,
             stack: null_mut(),
             stack_len: 0,
+            rows: null(),
+            rows_len: 0,
+            width: 0,
+            answers: null_mut(),
+            answers_len: 0,
+            tables: null_mut(),
+            tables_len: 0,
             registers: 0,
             counted: 0,
             deepest: 0,
@@ -111,5 +126,14 @@ impl SmallStack {
     pub fn stretch(&mut self, listing: &[u32], register: u32) -> (usize, usize) {
         let call = self.call(STRETCH, listing, |call| call.number = register);
         (call.place, call.counted)
+    }
+    /// `sva_matches`: the number, the ticks, the place.
+    pub fn matches(&mut self, tree: &[u32], rows: &[u8], width: usize, answers: &mut [u8], work: &mut [u8]) -> (u32, usize, usize) {
+        let call = self.call(MATCHES, tree, |call| {
+            (call.rows, call.rows_len, call.width) = (rows.as_ptr(), rows.len(), width);
+            (call.answers, call.answers_len) = (answers.as_mut_ptr(), answers.len());
+            (call.tables, call.tables_len) = (work.as_mut_ptr(), work.len());
+        });
+        (call.number, call.counted, call.place)
     }
 }

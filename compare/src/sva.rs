@@ -34,6 +34,19 @@ extern "C" {
         place: *mut usize,
     ) -> u32;
     fn sva_stretch(listing: *const u32, listing_len: usize, register: u32, start: *mut usize) -> usize;
+    fn sva_matches(
+        tree: *const u32,
+        tree_len: usize,
+        rows: *const u8,
+        rows_len: usize,
+        width: usize,
+        answers: *mut u8,
+        answers_len: usize,
+        work: *mut u8,
+        work_len: usize,
+        ticks: *mut usize,
+        place: *mut usize,
+    ) -> u32;
 }
 
 /// What stands in the places of `match`, counts and place before a call.
@@ -90,6 +103,28 @@ pub fn stretch(listing: &[u32], register: u32) -> (usize, usize) {
     // Safety: pointer and length are one slice.
     let len = unsafe { sva_stretch(listing.as_ptr(), listing.len(), register, &mut start) };
     (start, len)
+}
+
+/// `sva_matches` on these slices: the number, the ticks, the place.
+pub fn matches(tree: &[u32], rows: &[u8], width: usize, answers: &mut [u8], work: &mut [u8]) -> (u32, usize, usize) {
+    let [mut ticks, mut place] = [NO_COUNT; 2];
+    // Safety: each pointer and length is one slice.
+    let number = unsafe {
+        sva_matches(
+            tree.as_ptr(),
+            tree.len(),
+            rows.as_ptr(),
+            rows.len(),
+            width,
+            answers.as_mut_ptr(),
+            answers.len(),
+            work.as_mut_ptr(),
+            work.len(),
+            &mut ticks,
+            &mut place,
+        )
+    };
+    (number, ticks, place)
 }
 
 /// An answer, or a promise that was broken.
@@ -205,5 +240,24 @@ impl Sva {
         let found = stretch(listing.content(), register);
         listing.same_past(0, "the listing")?;
         Ok(found)
+    }
+    /// `sva_matches` with buffers of these lengths, filled with noise before: a byte a tick, or the refusal.
+    pub fn matches(&self, tree: &[u32], rows: &[u8], width: usize, answers: usize, work: usize) -> Checked<Vec<u8>> {
+        let tree = Lent::new(tree, 0xdead_beef, self.guards);
+        let rows = Lent::new(rows, 0xaa, self.guards);
+        let [mut written, mut work] = [answers, work].map(|len| Lent::new(&vec![0x77; len], 0xaa, self.guards));
+        let (number, ticks, place) = matches(tree.content(), rows.content(), width, written.lend(), work.lend());
+        tree.same_past(0, "the tree")?;
+        rows.same_past(0, "the rows")?;
+        work.all(0, "work")?;
+        if number != 0 {
+            written.same_past(0, "the answers of a refusal")?;
+            return if ticks == 0 { Ok(Err(Refusal { number, place })) } else { Err(format!("a refusal with {ticks} ticks")) };
+        }
+        if ticks > answers || place != 0 {
+            return Err(format!("{ticks} ticks and place {place} for {answers} answers"));
+        }
+        written.same_past(ticks, "the answers past the ticks")?;
+        Ok(Ok(written.content()[..ticks].to_vec()))
     }
 }

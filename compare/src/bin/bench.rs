@@ -1,12 +1,13 @@
 //! Times this project beside others, on the same inputs, in one run of three repetitions that take turns: its lowering beside the original's
-//! `synth_seq_match`, its tick beside a plain interpreter in C. The best repetition of each counts.
+//! `synth_seq_match`, its tick beside a plain interpreter in C, its matcher beside a plain one in C that fills the same tables. The best
+//! repetition of each counts.
 //!
 //! Of the original its lowering call alone is timed, with its own expansion; making its syntax tree and dropping what it returns is
 //! not. Here work is lent as long as the tree needs it and output as long as the listing is; the tree is read from its words.
 use compare::listing::{self, Counts};
 use compare::original::{self, UNLIMITED};
-use compare::trees::{atom, balanced, consecutive, delay, nonconsecutive, tower, within, Random};
-use compare::{commands, interpreter, rules, sva};
+use compare::trees::{atom, balanced, consecutive, delay, nonconsecutive, throughout, tower, within, Random};
+use compare::{commands, interpreter, matcher, rules, runs, sva};
 use std::hint::black_box;
 use std::time::{Duration, Instant};
 
@@ -143,6 +144,54 @@ fn ticking(name: &str, tree: &[u32]) {
     println!("| {name} | {registers} | {count} | {here:.1} | {once:.1} | {every:.1} | {:.2} | {:.2} |", here / once, here / every);
 }
 
+/// How many atoms a recorded row has.
+const WIDTH: usize = 8;
+
+/// A tree over the longest recording, of bits that are 1 so many times in a hundred: here, and in C with nothing checked.
+fn matching(name: &str, tree: &[u32], percent: usize) {
+    let ticks = runs::TICKS;
+    let rows = Random(256).rows(ticks, WIDTH, percent);
+    let [mut answers, mut plain] = [vec![9; ticks], vec![9; ticks]];
+    let mut work = vec![0; tree.len() / 5 * (ticks + 1) * (ticks + 1)];
+    let mut tables = work.clone();
+    let mut matched_here = |calls| {
+        let start = Instant::now();
+        for _ in 0..calls {
+            assert_eq!(sva::matches(black_box(tree), &rows, WIDTH, &mut answers, &mut work), (0, ticks, 0));
+        }
+        start.elapsed()
+    };
+    let mut matched_in_c = |calls| {
+        let start = Instant::now();
+        for _ in 0..calls {
+            // Safety: they are answered with ticks, as is asserted above.
+            unsafe { matcher::matches(black_box(tree), &rows, WIDTH, &mut plain, &mut tables) };
+        }
+        start.elapsed()
+    };
+    let [here, c] = best(LEAST, [&mut matched_here, &mut matched_in_c]).map(|nanoseconds| nanoseconds / 1e6);
+    assert!(answers == plain, "the same answers");
+    println!("| {name} | {} | {percent} | {here:.2} | {c:.2} | {:.2} |", tree.len() / 5, here / c);
+}
+
+/// Trees over recordings: as they are written, and the dearest.
+fn matchings() {
+    let (a, b, c) = (atom(0), atom(1), atom(2));
+    println!("\n| matcher | nodes | atoms that hold, % | here, ms | C, ms | here / C |\n|---|---|---|---|---|---|");
+    matching("`a ##1 b`", &delay(&a, &b, 1, 1), 50);
+    matching("`a ##1 b[*1:3] ##2 c`", &delay(&delay(&a, &consecutive(&b, 1, 3), 1, 1), &c, 2, 2), 50);
+    let inner = throughout(2, &delay(&a, &consecutive(&b, 1, 4), 0, 3));
+    let ten = consecutive(&within(&inner, &delay(&atom(3), &atom(4), 1, UNLIMITED)), 1, UNLIMITED);
+    matching("`((c throughout (a ##[0:3] b[*1:4])) within (d ##[1:$] e))[*1:$]`", &ten, 50);
+    matching("the same", &ten, 100);
+    matching("`a[*1:$]`", &consecutive(&a, 1, UNLIMITED), 100);
+    matching("`a[*0:$]` under 62 `[*0:$]`", &tower(a.clone(), 63, |t| consecutive(t, 0, UNLIMITED)), 100);
+    matching("`a[*0:$]`, then 31 `##[0:$] b`", &tower(consecutive(&a, 0, UNLIMITED), 31, |t| delay(t, &b, 0, UNLIMITED)), 100);
+    let slow = [consecutive(&a, 0, 1), consecutive(&a, 1, UNLIMITED)].map(|operand| consecutive(&operand, 100, 256));
+    matching("16 of `a[*0:1][*100:256]`, `##[0:$]`", &balanced(&vec![slow[0].clone(); 16], 0, UNLIMITED), 100);
+    matching("16 of `a[*1:$][*100:256]`, `##[0:$]`", &balanced(&vec![slow[1].clone(); 16], 0, UNLIMITED), 100);
+}
+
 /// All rows.
 fn rows() {
     let (a, b, c) = (atom(0), atom(1), atom(2));
@@ -173,6 +222,7 @@ fn rows() {
     ticking("`a ##1 b`", &delay(&a, &b, 1, 1));
     ticking("`a ##1 b[*1:3] ##2 c`", &typical);
     ticking("`a ##[0:63] b`", &delay(&a, &b, 0, 63));
+    matchings();
 }
 
 fn main() {

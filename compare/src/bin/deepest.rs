@@ -1,16 +1,16 @@
 //! The deepest trees of every kind, accepted and refused, on a stack of just the bytes that `include/sva.h` promises to be enough, or of as
 //! many as the first argument says: what `sva_lower` answers is what document 01 does, and of the listings some ticks and stretches are
-//! taken on the same stack. Ends with the most bytes that a call wrote to.
+//! taken on the same stack; towers of 64 nodes are matched on it. Ends with the most bytes that a call wrote to.
 //!
 //! Seen with the code compiled for Arm: 64,304 bytes at most. Of the archive for x86-64, under an emulator, a program in C lowered the same
 //! trees through `c/small_stack.c`, with one tick and one stretch of each listing: 64,328 bytes at most; with 61,440 in place of the
 //! promised 65,536 a segmentation fault, at the fifth tree.
-use compare::commands;
 use compare::listing::Counts;
 use compare::original::UNLIMITED;
 use compare::rules::{decided, Refusal, ENTRIES};
 use compare::small_stack::{promised, SmallStack};
 use compare::trees::{atom, balanced, consecutive, delay, goto, nonconsecutive, throughout, tower, within};
+use compare::{commands, runs};
 
 /// No longer listing is written.
 const WORDS: usize = 1 << 20;
@@ -113,6 +113,27 @@ fn seen(stack: &mut SmallStack, tree: &[u32], work: &mut [u32], out: &mut [u32])
     Ok(counts)
 }
 
+/// Towers as high as the matcher takes them, over two ticks: answered as the sets of runs say.
+fn matched(stack: &mut SmallStack) -> usize {
+    let rows = [1; 2 * 8];
+    let (mut answers, mut work) = (vec![0; 2], vec![0; runs::NODES * 9]);
+    let mut count = 0;
+    for bottom in bottoms() {
+        for floor in floors() {
+            let tree = (0..).map(|height| tower(bottom.clone(), height, floor)).take_while(|tree| tree.len() <= 5 * runs::NODES).last();
+            let tree = tree.expect("a tower of some height");
+            let expected = runs::judged(&tree, &rows, 8, answers.len(), work.len());
+            let (number, ticks, place) = stack.matches(&tree, &rows, 8, &mut answers, &mut work);
+            match expected {
+                Err(refusal) => assert_eq!(refusal, Refusal { number, place }, "{tree:?}"),
+                Ok(_) => assert_eq!((number, ticks, &answers), (0, 2, &runs::answers(&tree, &rows, 8)), "{tree:?}"),
+            }
+            count += 1;
+        }
+    }
+    count
+}
+
 /// All of them, on a stack of so many bytes.
 fn run(bytes: usize) {
     let mut stack = SmallStack { bytes, most: 0 };
@@ -125,6 +146,7 @@ fn run(bytes: usize) {
         }
     }
     println!("{accepted} trees lowered, refused by number: {:?}", &refused[1..]);
+    println!("{} towers matched", matched(&mut stack));
     println!("{} bytes of stack at most, of {bytes}", stack.most);
 }
 

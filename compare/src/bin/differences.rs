@@ -1,10 +1,11 @@
-//! What the original does with the smallest trees on which it and document 01 part, or might: a row each, as docs/DIFFERENCES.md has them.
+//! What the original does with the smallest trees on which it and document 01 part, or might: a row each, as docs/DIFFERENCES.md has them. Then
+//! what lowering and the matcher do with those on which lowering and the standard part.
 use compare::commands;
 use compare::listing;
 use compare::original::{self, Outcome, UNLIMITED};
 use compare::rules::{self, REGISTERS};
 use compare::sva::Sva;
-use compare::trees::{atom, consecutive, delay, goto, throughout, tower, within};
+use compare::trees::{atom, consecutive, delay, goto, nonconsecutive, throughout, tower, within};
 
 /// One row: the name, what the original does, what is done here.
 fn row(name: &str, tree: &[u32]) {
@@ -14,13 +15,30 @@ fn row(name: &str, tree: &[u32]) {
         Outcome::Panicked(count) => format!("panics after {count} diagnostics"),
         Outcome::TooManyRegisters => "stopped at its 65,537th register".to_string(),
     };
-    let work = 16 * rules::ENTRIES as usize;
-    let here = match (Sva { guards: 8 }).lower(tree, work, 1 << 20) {
+    println!("| `{name}` | {there} | {} |", lowered(tree));
+}
+
+/// What lowering does here.
+fn lowered(tree: &[u32]) -> String {
+    match (Sva { guards: 8 }).lower(tree, 16 * rules::ENTRIES as usize, 1 << 20) {
         Ok(Ok((_, words))) => shortened(&listing::text(&words)),
         Ok(Err(refusal)) => format!("refused {} {}", refusal.number, refusal.place),
         Err(fault) => fault,
+    }
+}
+
+/// The ticks of the recording that the matcher is asked about: a, b, c and d at each.
+const TICKS: usize = 4;
+
+/// One row: the name, what lowering does, and at which ticks the matcher says that a match ends.
+fn matched(name: &str, tree: &[u32]) {
+    let work = tree.len() / 5 * (TICKS + 1) * (TICKS + 1);
+    let answer = match (Sva { guards: 8 }).matches(tree, &[1; 4 * TICKS], 4, TICKS, work) {
+        Ok(Ok(bytes)) => format!("{bytes:?}"),
+        Ok(Err(refusal)) => format!("refused {} {}", refusal.number, refusal.place),
+        Err(fault) => fault,
     };
-    println!("| `{name}` | {there} | {here} |");
+    println!("| `{name}` | {} | {answer} |", lowered(tree));
 }
 
 /// A text on one line, without its middle if it is long.
@@ -91,12 +109,38 @@ fn empties() {
     row("(a[*0:1])[*1:$]", &consecutive(&consecutive(&a, 0, 1), 1, UNLIMITED));
 }
 
+/// Where lowering, as the original, and the standard part.
+fn standard() {
+    let [a, b, c, d] = [0, 1, 2, 3].map(atom);
+    matched("a ##1 (c throughout (b ##1 d))", &delay(&a, &throughout(2, &delay(&b, &d, 1, 1)), 1, 1));
+    matched("(b ##1 c)[->1]", &goto(&delay(&b, &c, 1, 1), 1));
+    matched("(a ##1 b)[=2]", &nonconsecutive(&delay(&a, &b, 1, 1), 2));
+    matched("(a ##1 b)[*1:$]", &consecutive(&delay(&a, &b, 1, 1), 1, UNLIMITED));
+    matched("c throughout (a ##[1:$] b)", &throughout(2, &delay(&a, &b, 1, UNLIMITED)));
+    matched("c throughout b[->2]", &throughout(2, &goto(&b, 2)));
+    matched("(a within b) ##1 c", &delay(&within(&a, &b), &c, 1, 1));
+    matched("(a ##[1:$] b) within c", &within(&delay(&a, &b, 1, UNLIMITED), &c));
+    matched("(c throughout a) within b", &within(&throughout(2, &a), &b));
+    matched("a[*0]", &consecutive(&a, 0, 0));
+    matched("a[*0:1]", &consecutive(&a, 0, 1));
+    matched("a[*0:1] ##1 b", &delay(&consecutive(&a, 0, 1), &b, 1, 1));
+    let maybe = consecutive(&b, 0, 1);
+    matched("a ##0 b[*0:1] ##1 c", &delay(&delay(&a, &maybe, 0, 0), &c, 1, 1));
+    matched("a ##1 b[*0:1] ##0 c", &delay(&delay(&a, &maybe, 1, 1), &c, 0, 0));
+    matched("a ##[1:$] b[*0]", &delay(&a, &consecutive(&b, 0, 0), 1, UNLIMITED));
+    matched("a ##[0:256] b", &delay(&a, &b, 0, 256));
+    matched("a[*257]", &consecutive(&a, 257, 257));
+    matched("a ##4294967294 b", &delay(&a, &b, UNLIMITED - 1, UNLIMITED - 1));
+}
+
 /// All rows.
 fn rows() {
     println!("| input | the original | here |\n|---|---|---|");
     ranges();
     caps();
     empties();
+    println!("\n| input | lowering | the matcher, over {TICKS} ticks of 1 |\n|---|---|---|");
+    standard();
 }
 
 fn main() {

@@ -17,7 +17,7 @@ const DEPTH: usize = 257;
 const FOREIGN: usize = 4096;
 
 /// The functions that a caller of the archive calls, and the bytes of arguments that each is passed on the stack.
-const ENTRIES: [(&str, usize); 3] = [("sva_lower", 4 * 8), ("sva_tick", 6 * 8), ("sva_stretch", 0)];
+const ENTRIES: [(&str, usize); 4] = [("sva_lower", 4 * 8), ("sva_tick", 6 * 8), ("sva_stretch", 0), ("sva_matches", 5 * 8)];
 
 /// A function: the bytes of its frame, and what it calls.
 #[derive(Default)]

@@ -1,8 +1,7 @@
 -- The matcher and the lowering agree: of the contracts of `lower`, `tick` and `matches` alone, a run from zeroed registers is answered at each
 -- recorded tick with the matcher's byte. Both are judged by `Match`; the lowering's side is what it is to meet the standard, so that the
 -- agreement holds wherever that does, and the premise about throughout stands in the last step alone.
-use mathlib.Core.Bool.{Bool}
-use mathlib.Core.Path.{_≡_, refl, ap, _∙_}
+use mathlib.Core.Path.{_≡_}
 use mathlib.Core.Logic.{_↔_, inl, inr}
 use mathlib.Core.List.{List}
 use Prim.Native.Nat.{ℕ, _≤_, _<_}

@@ -1,7 +1,7 @@
 -- The matcher and the lowering agree, of what C calls: of the contracts of `sva_lower`, `sva_tick` and `sva_matches` alone. A returned 0 is an
 -- answer, since refusals are numbered from 1 on; so it is read off the contracts of the functions below.
 use mathlib.Core.Path.{_≡_, refl, sym, subst, _∙_}
-use mathlib.Core.Logic.{_↔_, inl, inr}
+use mathlib.Core.Logic.{inl, inr}
 use mathlib.Core.List.{List}
 use Prim.Native.Nat.{ℕ, _<_}
 use native.Mathlib.Omega.{arith}
@@ -14,7 +14,7 @@ use Rattle.recording.specs.declared.Matched.the-variants.{Ticks, Refused}
 use Rattle.recording.proofs.RefusalNumbers.{Numbered, refusals-are-numbered-from-1-to-18}
 use Rattle.recorded_runs.specs.Recorded.{atoms-at}
 use Rattle.matches.specs.Answers.{AMatchEnds, Says, Holds, Matches}
-use Rattle.sva_c.specs.Boundary.{matched-number, matched-ticks, matched-place, MatchesForC}
+use Rattle.sva_c.specs.Boundary.{matched-number, matched-ticks, MatchesForC}
 use Rattle.demands.specs.ShippedForC.{RunsForC, MeetsTheStandardForC}
 use Rattle.demands.proofs.TheStandardIsMetForC.{sva-lower-and-sva-tick-meet-the-standard}
 use Rattle.demands.proofs.TheMatcherAgrees.{AsRecorded, the-same-matches-end}

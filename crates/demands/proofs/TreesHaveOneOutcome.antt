@@ -9,6 +9,7 @@ use ghost.Atoms.{Atoms}
 use contract.Monad.{Fun}
 use Rattle.words.proofs.put as put
 use Rattle.words.proofs.clear as clear
+use Rattle.words.proofs.clear_bytes as clear-bytes
 use Rattle.words.proofs.copied as copied
 use Rattle.term.proofs.store as store
 use Rattle.term.proofs.load as load
@@ -31,12 +32,15 @@ use Rattle.demands.specs.OneOutcome.{OneOutcome}
 use Rattle.demands.proofs.OneOutcome.{same-outcome, same, from-both, by-an-equation, by-equations, by-writing}
 
 module _ {M : Type 1} (𝓤 : URA M) (H : Heap 𝓤) (A : Atoms 𝓤) (mem : Memory → SProp 𝓤) (run : Routine → Fun 𝓤) where
-  -- Words put and copied into a slice, and a slice cleared.
+  -- Words put and copied into a slice, and slices cleared.
   pub words-put-has-one-outcome : OneOutcome 𝓤 put.ended (put.clauses 𝓤 H A mem run)
   words-put-has-one-outcome κs a g o o′ = by-writing 𝓤 (λ out. (out, (tt, (tt, tt))))
 
   pub words-clear-has-one-outcome : OneOutcome 𝓤 clear.ended (clear.clauses 𝓤 H A mem run)
   words-clear-has-one-outcome κs a g o o′ = from-both 𝓤 (λ p p′. same-outcome (λ work. (work, tt)) refl (same p p′))
+
+  pub words-clear-bytes-has-one-outcome : OneOutcome 𝓤 clear-bytes.ended (clear-bytes.clauses 𝓤 H A mem run)
+  words-clear-bytes-has-one-outcome κs a g o o′ = from-both 𝓤 (λ p p′. same-outcome (λ bytes. (bytes, tt)) refl (same p p′))
 
   pub words-copied-has-one-outcome : OneOutcome 𝓤 copied.ended (copied.clauses 𝓤 H A mem run)
   words-copied-has-one-outcome κs a g o o′ = by-writing 𝓤 (λ out. (tt, (out, (tt, tt))))

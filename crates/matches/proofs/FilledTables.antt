@@ -1,25 +1,19 @@
 -- The tables of a node and of all below it are filled, the operands' first: each call fills one table more, and none that was right is lost.
-use mathlib.Core.Path.{_≡_, sym, _∙_}
+use mathlib.Core.Path.{_≡_, _∙_}
 use mathlib.Core.Bool.{Bool, true, false}
-use mathlib.Core.Logic.{inl, inr, ⊎-elim}
+use mathlib.Core.Logic.{⊎-elim}
 use mathlib.Core.List.{List}
 use Prim.Native.Nat.{ℕ, _+_, _*_, _≤_, _<_}
 use native.Mathlib.Omega.{arith}
 use native.Mathlib.Decide.{ℕ-discrete}
 use lib.ListN.{length}
-use Rattle.words.proofs.Taken.{false-is-not-true}
+use Rattle.words.specs.Choice.{Tells}
+use Rattle.words.proofs.Taken.{told, told-not}
 use Rattle.meaning.specs.Tree.{node-at, nodes}
 use Rattle.meaning.specs.Lowerable.{WellFormed}
 use Rattle.meaning.specs.declared.Node.{Node}
-use Rattle.repeated_runs.specs.Repeated.{Tells}
-use Rattle.repeated_runs.proofs.Rows.{told}
 use Rattle.matches.specs.Tables.{Fillable, JoinsTwo, Ready, TableFilled, Filled}
 use Rattle.matches.proofs.TablesApart.{apart}
-
--- What a truth value says does not hold, where it is false.
-told-not : {P : Type 0} {test : Bool} → Tells test P → test ≡ false → P → ⊥
-told-not (inl (e, p)) q = absurd (false-is-not-true (sym q ∙ e))
-told-not (inr (e, n)) q = n
 
 -- The node can be read: its words are there, ..
 pub node-readable : {tree rows : List ℕ} {width side room n : ℕ} → Fillable tree rows width side room → n < nodes tree → n * 5 + 5 ≤ length tree

@@ -5,8 +5,8 @@ use mathlib.Core.Logic.{inl, inr, ⊎-elim}
 use native.Mathlib.Decide.{ℕ-discrete}
 use lib.Dec.{eqb}
 use borrow.Author.Tests.{eq-eqb, ne-eqb}
+use Rattle.words.specs.Choice.{Tells}
 use Rattle.meaning.specs.declared.Node.{Node}
-use Rattle.repeated_runs.specs.Repeated.{Tells}
 use Rattle.matches.specs.Tables.{JoinsTwo}
 
 -- A delay does.

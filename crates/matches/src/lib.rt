@@ -6,12 +6,12 @@
 // Example: `a ##1 b` over the rows 1 0, 0 1 of width 2 is answered Ticks(2) with the bytes 0 1.
 ghost use mathlib.Core.Path.{_≡_};
 ghost use Prim.Native.Nat.{_+_, _*_, _≤_, _<_};
-ghost use lib.ListN.{length, replicate};
+ghost use lib.ListN.{length};
+ghost use Rattle.words.specs.Choice.{Tells};
 ghost use Rattle.words.specs.Written.{written};
 ghost use Rattle.meaning.specs.Tree.{tree-at, nodes};
 ghost use Rattle.meaning.specs.Match.{Match};
 ghost use Rattle.runs.specs.Ends.{Gains, Stands};
-ghost use Rattle.repeated_runs.specs.Repeated.{Tells};
 ghost use Rattle.recorded_runs.specs.Recorded.{recorded};
 ghost use Rattle.matches.specs.Tables.{table-of, Fillable, JoinsTwo, Ready, NoEnds, RowFilled, TableFilled, Filled};
 ghost use Rattle.matches.specs.Answers.{Says, Answered, Matches};
@@ -188,17 +188,6 @@ fn put_answers(tables: &[u8], table: usize, ticks: usize, answers: &mut [u8])
     }
 }
 
-// Every byte to zero.
-fn clear(work: &mut [u8])
-    ensures { λ _. ⌜ now (work .exit) ≡ replicate (length (now (work .entry))) 0 ⌝ }
-{
-    let mut i = 0;
-    while i < work.len() {
-        work[i] = 0;
-        i += 1;
-    }
-}
-
 // The answers of a tree and rows that were judged good.
 fn answer_ticks(
     tree: &[u32],
@@ -246,6 +235,6 @@ pub fn matches(
     ensures { λ r. ⌜ Matches (now (tree .entry)) (now (rows .entry)) width (now (answers .entry)) (now (answers .exit)) (now (work .entry)) (now (work .exit)) r ⌝ }
 {
     let answer = matched(tree, rows, width, answers, work);
-    clear(work);
+    words::clear_bytes(work);
     answer
 }

@@ -10,14 +10,16 @@ use native.Mathlib.Nat.{zero-add}
 use native.Mathlib.Numerals.{add-one}
 use native.Mathlib.Decide.{ℕ-discrete, decLe}
 use lib.ListN.{length, getD, set, take, drop, replicate, length-set}
+use Rattle.words.specs.Choice.{Tells}
+use Rattle.words.proofs.Taken.{told}
 use Rattle.meaning.specs.Match.{Times}
 use Rattle.meaning.proofs.RunLaws.{times-forward}
 use Rattle.runs.specs.Ends.{Gains, In, Kept, Reached}
 use Rattle.runs.proofs.Laws.{gains-none, gains-as, gains-then, gains-one, in-gained, zeros-blank, in-gained-blank}
-use Rattle.repeated_runs.specs.Repeated.{Repeated, Alike, Tells, Carries, Last, Onward}
+use Rattle.repeated_runs.specs.Repeated.{Repeated, Alike, Carries, Last, Onward}
 use Rattle.repeated_runs.proofs.Copies.{settled, no-highest, that-or-more}
 use Rattle.repeated_runs.proofs.Closing.{kept-forward}
-use Rattle.repeated_runs.proofs.Rows.{told, part-long, part-carries, whole-long, whole-carries}
+use Rattle.repeated_runs.proofs.Rows.{part-long, part-carries, whole-long, whole-carries}
 
 module _ (tables : List ℕ) (table side i : ℕ) where
   -- An end that so many copies reach from i.

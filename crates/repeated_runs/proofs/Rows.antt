@@ -1,6 +1,6 @@
 -- Rows of 257 bytes: which two are the same, what the first part of one is, and what one carries that had no ends before.
-use mathlib.Core.Bool.{Bool, true, false, true≢false}
-use mathlib.Core.Path.{_≡_, refl, sym, subst, _∙_}
+use mathlib.Core.Bool.{true, false}
+use mathlib.Core.Path.{_≡_, refl, subst}
 use mathlib.Core.Logic.{inl, inr, _↔_}
 use mathlib.Core.List.{List, _++_}
 use Prim.Native.Nat.{ℕ, _+_, _*_, _≤_, _<_}
@@ -8,14 +8,10 @@ use native.Mathlib.Omega.{arith}
 use native.Mathlib.Decide.{ℕ-discrete}
 use lib.ListN.{length, getD, take, drop, replicate, length-append, length-drop, List·getD-append}
 use lib.Seq.{getD-take, length-take-le}
+use Rattle.words.specs.Choice.{Tells}
 use Rattle.runs.specs.Ends.{Gains, In, Reached}
 use Rattle.runs.proofs.Laws.{zeros-blank, part-blank, in-gained-blank}
-use Rattle.repeated_runs.specs.Repeated.{Alike, Tells, Carries}
-
--- What a truth value says holds, where it is true.
-pub told : {b : Bool} {P : Type 0} → Tells b P → b ≡ true → P
-told (inl (e, p)) q = p
-told (inr (e, n)) q = absurd (true≢false (sym q ∙ e))
+use Rattle.repeated_runs.specs.Repeated.{Alike, Carries}
 
 -- Two rows that are compared are the same below j.
 pub record Comparing (x y : List ℕ) (side j : ℕ) : Type 0 where

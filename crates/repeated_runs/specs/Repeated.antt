@@ -1,6 +1,5 @@
 -- A repetition of a table's runs (01, "What a match is": "Repetition joins by ##1").
 -- Example: twice the runs [0, 1) and [1, 2) is [0, 2).
-use mathlib.Core.Bool.{Bool, true, false}
 use mathlib.Core.Path.{_≡_}
 use mathlib.Core.Logic.{_⊎_, _↔_}
 use mathlib.Core.List.{List}
@@ -16,10 +15,6 @@ Repeated tables table side min max i j = (c : ℕ) × (min ≤ c) × (c ≤ max)
 -- Two rows that are the same below the side.
 abbrev pub Alike : List ℕ → List ℕ → ℕ → Type 0
 Alike x y side = (j : ℕ) → j < side → getD x j 0 ≡ getD y j 0
-
--- The truth value says whether P holds.
-abbrev pub Tells : Bool → Type 0 → Type 0
-Tells b P = ((b ≡ true) × P) ⊎ ((b ≡ false) × (P → ⊥))
 
 -- A row whose ends below the side are those of which P holds.
 pub record Carries (row : List ℕ) (side : ℕ) (P : ℕ → Type 0) : Type 0 where

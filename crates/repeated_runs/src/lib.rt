@@ -8,8 +8,9 @@
 ghost use mathlib.Core.Path.{_≡_};
 ghost use Prim.Native.Nat.{_+_, _*_, _≤_, _<_, min};
 ghost use lib.ListN.{length, replicate};
+ghost use Rattle.words.specs.Choice.{Tells};
 ghost use Rattle.runs.specs.Ends.{Gains, In, Kept, Stands, Reached};
-ghost use Rattle.repeated_runs.specs.Repeated.{Repeated, Alike, Tells, Carries, Last, Onward};
+ghost use Rattle.repeated_runs.specs.Repeated.{Repeated, Alike, Carries, Last, Onward};
 
 // The lower of a count and the side of a table: a copy more than there are ticks.
 fn capped(count: u32, side: usize) -> usize

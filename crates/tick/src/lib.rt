@@ -10,7 +10,7 @@ ghost use mathlib.Core.Bool.{false};
 ghost use mathlib.Core.List.{[]};
 ghost use Prim.Native.Nat.{_*_, _+_, _-_, _^_, _≤_, _<_, max};
 ghost use lib.Dec.{ltb};
-ghost use lib.ListN.{length, getD, set, replicate};
+ghost use lib.ListN.{length, getD, set};
 ghost use Rattle.words.specs.Choice.{pick};
 ghost use Rattle.meaning.specs.Listing.{operation};
 ghost use Rattle.meaning.specs.Check.{check};
@@ -385,17 +385,6 @@ fn evaluate(listing: &[u32], cur: &[u8], atoms: &[u8], next: &mut [u8], stack: &
     0
 }
 
-// Every byte to zero.
-fn clear(stack: &mut [u8])
-    ensures { λ _. ⌜ now (stack .exit) ≡ replicate (length (now (stack .entry))) 0 ⌝ }
-{
-    let mut i = 0;
-    while i < stack.len() {
-        stack[i] = 0;
-        i += 1;
-    }
-}
-
 // Refusal 22: whether `cur`, `next`, atoms or stack, of these lengths, is too short.
 fn lacks(wanted: Wanted, cur: usize, atoms: usize, next: usize, stack: usize) -> bool
     ensures { λ r. ⌜ r ≡ lacking wanted cur atoms next stack ⌝ }
@@ -435,7 +424,7 @@ fn step(
         return meaning::Ticked::Refused(23, 0);
     }
     let bit = evaluate(listing, cur, atoms, next, stack);
-    clear(stack);
+    words::clear_bytes(stack);
     meaning::Ticked::Match(bit)
 }
 

@@ -1,10 +1,11 @@
 -- Which way a choice went, from what it gave: how an answer that is no refusal is read backwards. And choices between truths,
 -- which are tests made of tests. Assumes nothing.
-use mathlib.Core.Path.{_≡_, refl, sym}
+use mathlib.Core.Path.{_≡_, refl, sym, _∙_}
 use mathlib.Core.Bool.{Bool, true, false}
+use mathlib.Core.Logic.{inl, inr}
 use Prim.Native.Nat.{ℕ}
 use native.Mathlib.Omega.{arith}
-use Rattle.words.specs.Choice.{pick}
+use Rattle.words.specs.Choice.{pick, Tells}
 
 -- The second branch cannot give r, so the test holds.
 pub first-taken : {A : Type 0} (b : Bool) {x y r : A} → (y ≡ r → ⊥) → pick b x y ≡ r → (b ≡ true) × (x ≡ r)
@@ -21,6 +22,15 @@ second-taken false f e = (refl, e)
 -- For a test that was passed.
 pub false-is-not-true : false ≡ true → ⊥
 false-is-not-true e = let z : _≡_ {A = ℕ} 0 1 = cc in omega arith
+
+-- What a test says whether it holds does, where the test holds, and does not, where it fails.
+pub told : {b : Bool} {P : Type 0} → Tells b P → b ≡ true → P
+told (inl (e, p)) q = p
+told (inr (e, n)) q = absurd (false-is-not-true (sym e ∙ q))
+
+pub told-not : {b : Bool} {P : Type 0} → Tells b P → b ≡ false → P → ⊥
+told-not (inl (e, p)) q = absurd (false-is-not-true (sym q ∙ e))
+told-not (inr (e, n)) q = n
 
 -- A test before another: both hold.
 pub both-hold : (b : Bool) {x : Bool} → pick b x false ≡ true → (b ≡ true) × (x ≡ true)

@@ -3,6 +3,7 @@
 -- code that makes these tests is answered by `search tests`.
 use mathlib.Core.Path.{_≡_, refl}
 use mathlib.Core.Bool.{Bool, true, false}
+use mathlib.Core.Logic.{_⊎_}
 use borrow.Author.Tests.{lt-ltb, le-ltb, le-leb, lt-leb, eq-eqb, ne-eqb}
 
 -- The first branch where the test holds, else the second.
@@ -17,6 +18,10 @@ pick-true x y e = rw e
 pub pick-false : {A : Type 0} {b : Bool} (x y : A) → b ≡ false → pick b x y ≡ y
 unfolding pick
 pick-false x y e = rw e
+
+-- The test says whether P holds.
+abbrev pub Tells : Bool → Type 0 → Type 0
+Tells b P = ((b ≡ true) × P) ⊎ ((b ≡ false) × (P → ⊥))
 
 -- Equal branches, each compared only where it is taken.
 pub pick-cong : {A : Type 0} (b : Bool) {x x′ y y′ : A} → (b ≡ true → x ≡ x′) → (b ≡ false → y ≡ y′) → pick b x y ≡ pick b x′ y′

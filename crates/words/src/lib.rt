@@ -1,4 +1,4 @@
-// Words put into a lent slice, one or those of another, and a slice cleared.
+// Words put into a lent slice, one or those of another, and slices cleared.
 ghost use mathlib.Core.Path.{_≡_};
 ghost use mathlib.Core.List.{[], _∷_};
 ghost use Prim.Native.Nat.{_+_, _<_, _≤_};
@@ -35,6 +35,17 @@ pub fn clear(work: &mut [u32])
     let mut i = 0;
     while i < work.len() {
         work[i] = 0;
+        i += 1;
+    }
+}
+
+// Every byte to zero.
+pub fn clear_bytes(bytes: &mut [u8])
+    ensures { λ _. ⌜ now (bytes .exit) ≡ replicate (length (now (bytes .entry))) 0 ⌝ }
+{
+    let mut i = 0;
+    while i < bytes.len() {
+        bytes[i] = 0;
         i += 1;
     }
 }

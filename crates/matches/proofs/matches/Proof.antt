@@ -7,8 +7,8 @@ use Rattle.matches.proofs.matches.Tie as tie
 matched-requires : tie.Need-matched-requires
 matched-requires c κs = search needs
 
-clear-requires : tie.Need-clear-requires
-clear-requires c κs = search needs
+clear-bytes-requires : tie.Need-clear-bytes-requires
+clear-bytes-requires c κs = search needs
 
 same-length : tie.Need-same-length
 same-length c = search needs
@@ -21,4 +21,4 @@ returns c = search cleared-matches
 
 pub matches-spec : {M : Type 1} → statement M
 matches-spec =
-    tie.close (tie.spec matched-requires clear-requires same-length same-length-2 returns)
+    tie.close (tie.spec matched-requires clear-bytes-requires same-length same-length-2 returns)

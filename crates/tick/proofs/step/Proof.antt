@@ -25,8 +25,8 @@ returns-3 c = search register-above-one
 evaluate-requires : tie.Need-evaluate-requires
 evaluate-requires c κs = search nothing-refused
 
-clear-requires : tie.Need-clear-requires
-clear-requires c κs = search needs
+clear-bytes-requires : tie.Need-clear-bytes-requires
+clear-bytes-requires c κs = search needs
 
 same-length : tie.Need-same-length
 same-length c = search needs
@@ -48,7 +48,7 @@ step-spec =
     are-bits-requires
     returns-3
     evaluate-requires
-    clear-requires
+    clear-bytes-requires
     same-length
     same-length-2
     returns-4)

@@ -17,6 +17,7 @@ use Rattle.stretch.specs.declared.Reader.{Reader}
 use Rattle.listing.proofs.row as row
 use Rattle.listing.proofs.is_store as is-store
 use Rattle.listing.proofs.stores_with as stores-with
+use Rattle.listing.proofs.moved as moved
 use Rattle.listing.proofs.height_with as height-with
 use Rattle.listing.proofs.registers as registers
 use Rattle.listing.proofs.word_fits as word-fits
@@ -60,6 +61,9 @@ module _ {M : Type 1} (𝓤 : URA M) (H : Heap 𝓤) (A : Atoms 𝓤) (mem : Mem
 
   pub listing-stores-with-has-one-outcome : OneOutcome 𝓤 stores-with.ended (stores-with.clauses 𝓤 H A mem run)
   listing-stores-with-has-one-outcome κs a g o o′ = by-an-equation 𝓤
+
+  pub listing-moved-has-one-outcome : OneOutcome 𝓤 moved.ended (moved.clauses 𝓤 H A mem run)
+  listing-moved-has-one-outcome κs a g o o′ = by-an-equation 𝓤
 
   pub listing-height-with-has-one-outcome : OneOutcome 𝓤 height-with.ended (height-with.clauses 𝓤 H A mem run)
   listing-height-with-has-one-outcome κs a g o o′ = by-an-equation 𝓤

@@ -171,8 +171,8 @@ pub takes-found : {v : Row} {h : ℕ} (o : ℕ) → v ≡ row-of o → row-of o 
 takes-found o e q = rw e q
 
 -- The height after a word, by the row that `row` answers.
-pub height-by-row : {v : Row} (h w : ℕ) → v ≡ row-of (operation w) → h - v .takes + v .leaves ≡ height h w
-height-by-row h w e = rw e refl
+pub height-by-row : {v : Row} {r : ℕ} (h w : ℕ) → v ≡ row-of (operation w) → r ≡ h - v .takes + v .leaves → r ≡ height h w
+height-by-row h w e q = q ∙ rw e refl
 
 -- The registers counted up to the place i.
 pub record Counting (s : List ℕ) (stores i : ℕ) : Type 0 where

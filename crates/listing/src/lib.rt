@@ -3,7 +3,7 @@
 // Example: a0 any seq0 r0 a1 any and match is `Described`, and its deepest stack is 2. Without its last word it is
 // `Faulty` at place 7, the word count.
 ghost use mathlib.Core.Path.{_≡_};
-ghost use Prim.Native.Nat.{_+_, _^_, _≤_, _<_, max};
+ghost use Prim.Native.Nat.{_+_, _-_, _^_, _≤_, _<_, max};
 ghost use Rattle.words.specs.Choice.{pick};
 ghost use Rattle.meaning.specs.Listing.{operation, «row-of», height as «height-of», «is-store», registers as «registers-of», deepest as «deepest-of»};
 ghost use Rattle.meaning.specs.Check.{«argument-fits», «operands-fit», «word-fits», check};
@@ -51,30 +51,13 @@ const ROWS: [meaning::Row; 14] = [
     STORE,
 ];
 
-// What the operation takes from the stack and leaves on it.
+// What the operation takes from the stack and leaves on it. The compiled code lays the table out anew at each look-up, so a caller that knows the
+// operation asks for a constant's row, which costs nothing at run time.
 pub fn row(o: u32) -> meaning::Row
     requires { ⌜ (1 ≤ o) × (o ≤ 14) ⌝ }
     ensures { λ r. ⌜ r ≡ row-of o ⌝ }
 {
     ROWS[(o - 1) as usize]
-}
-
-// The same, by the kind of the operation. The compiled code lays the table out anew at each look-up, but the row of a constant costs nothing
-// at run time.
-fn row_by_kind(o: u32) -> meaning::Row
-    requires { ⌜ (1 ≤ o) × (o ≤ 14) ⌝ }
-    ensures { λ r. ⌜ r ≡ row-of o ⌝ }
-{
-    if o < 5 {
-        return row(1);
-    }
-    if o < 7 {
-        return row(5);
-    }
-    if o < 9 {
-        return row(7);
-    }
-    row(9)
 }
 
 // Whether the word is a register's store.
@@ -99,13 +82,30 @@ pub fn stores_with(stores: usize, w: u32) -> usize
     stores
 }
 
-// The stack's height after the word, which finds what it takes.
+// The stack's height after a word of this row.
+pub fn moved(height: usize, row: meaning::Row) -> usize
+    requires { ⌜ (row .takes ≤ height) × (height < 2 ^ 63) ⌝ }
+    ensures { λ r. ⌜ r ≡ height - row .takes + row .leaves ⌝ }
+{
+    height - row.takes as usize + row.leaves as usize
+}
+
+// The stack's height after the word, which finds what it takes. Operations of one kind have one row, so that a constant's is asked for.
 pub fn height_with(height: usize, w: u32) -> usize
     requires { ⌜ (OperandFound height w) × (height < 2 ^ 63) ⌝ }
     ensures { λ r. ⌜ r ≡ height-of height w ⌝ }
 {
-    let row = row_by_kind(w / 16777216);
-    height - row.takes as usize + row.leaves as usize
+    let o = w / 16777216;
+    if o < 5 {
+        return moved(height, row(1));
+    }
+    if o < 7 {
+        return moved(height, row(5));
+    }
+    if o < 9 {
+        return moved(height, row(7));
+    }
+    moved(height, row(9))
 }
 
 // The registers of a slice: its stores, wherever they stand.

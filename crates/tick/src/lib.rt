@@ -51,21 +51,12 @@ enum Surveyed {
     Faulty,
 }
 
-// The stack's height after a word of this row. The compiled code lays the table out anew at each look-up, so a caller that
-// knows the operation asks for a constant's row, which costs nothing at run time.
-fn moved(height: usize, row: meaning::Row) -> usize
-    requires { ⌜ (row .takes ≤ height) × (height < 2 ^ 63) ⌝ }
-    ensures { λ r. ⌜ r ≡ height - row .takes + row .leaves ⌝ }
-{
-    height - row.takes as usize + row.leaves as usize
-}
-
 // The tally with the height after a word of this row.
 fn raised(s: Tally, row: meaning::Row) -> Tally
     requires { ⌜ (row .takes ≤ s .height) × (s .height < 2 ^ 63) ⌝ }
     ensures { λ r. ⌜ r ≡ raised-by row s ⌝ }
 {
-    let height = moved(s.height, row);
+    let height = listing::moved(s.height, row);
     Tally {
         stores: s.stores,
         height,
@@ -302,7 +293,7 @@ fn put(stack: &mut [u8], height: usize, row: meaning::Row, x: u8) -> usize
     ensures { λ r. ⌜ (r ≡ height - row .takes + row .leaves) × (now (stack .exit) ≡ set (now (stack .entry)) (height - row .takes) x) ⌝ }
 {
     stack[height - row.takes as usize] = x;
-    moved(height, row)
+    listing::moved(height, row)
 }
 
 // The value that operations 1 to 4 put on the stack.
@@ -334,7 +325,7 @@ fn apply(w: u32, cur: &[u8], atoms: &[u8], stack: &mut [u8], height: usize) -> u
         return put(stack, height, listing::row(1), value(w, cur, atoms));
     }
     if o == 5 {
-        return moved(height, listing::row(5));
+        return listing::moved(height, listing::row(5));
     }
     let y = stack[height - 1];
     if o < 7 {
@@ -377,7 +368,7 @@ fn evaluate(listing: &[u32], cur: &[u8], atoms: &[u8], next: &mut [u8], stack: &
                 return bit;
             }
             stores = store(next, stores, bit);
-            height = moved(height, listing::row(9));
+            height = listing::moved(height, listing::row(9));
         }
         i = place;
     }

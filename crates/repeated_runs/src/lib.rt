@@ -2,7 +2,7 @@
 //
 // More copies than a recording has ticks change nothing: one of them is empty, and can be left out or put in again. So the lowest count is
 // capped there, and a highest one that is not lower is as good as none: from the ends of the lowest all others are then reached in one
-// pass. A count of four thousand million costs no more than a small one does.
+// pass. A count of four thousand million costs no more than one of as many copies as there are ticks.
 //
 // Example: from start 0, with a at the ticks 0 and 1, `a[*1:$]` reaches 1 by one copy, and from there 2.
 ghost use mathlib.Core.Path.{_≡_};

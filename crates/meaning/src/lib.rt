@@ -1,8 +1,12 @@
-// The plain types that the definitions and the code share. No function stands here: what the types mean is in specs/,
-// and demand 3 about them is in proofs/Demand3.antt.
+// The plain types that the definitions and the code share, and the numbers of kinds and operations. No function stands here:
+// what the types mean is in specs/, and demand 3 about them is in proofs/Demand3.antt.
 //
 // Example: `a ##1 b` is the table 1,0,0,0,0, 1,1,0,0,0, 2,0,1,1,1, three nodes, read as `Node`s. It has one alternative of
 // two steps, Bool(0) and Bool(1), the second reached by Fixed(1).
+
+pub mod kind;
+pub mod operation;
+pub mod word;
 
 // Five words of a tree table.
 pub struct Node {

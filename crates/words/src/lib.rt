@@ -1,7 +1,7 @@
-// Words put into a lent slice, one or those of another, and slices cleared.
+// Words put into a lent slice, one or those of another, and slices cleared; and a number that stops at 0.
 ghost use mathlib.Core.Path.{_≡_};
 ghost use mathlib.Core.List.{[], _∷_};
-ghost use Prim.Native.Nat.{_+_, _<_, _≤_};
+ghost use Prim.Native.Nat.{_+_, _-_, _<_, _≤_};
 ghost use lib.ListN.{length, replicate};
 ghost use Rattle.words.specs.Written.{Wrote};
 
@@ -48,4 +48,14 @@ pub fn clear_bytes(bytes: &mut [u8])
         bytes[i] = 0;
         i += 1;
     }
+}
+
+// One less, and 0 for 0.
+pub fn one_less(n: u32) -> u32
+    ensures { λ r. ⌜ r ≡ n - 1 ⌝ }
+{
+    if n == 0 {
+        return 0;
+    }
+    n - 1
 }

@@ -15,7 +15,7 @@ use Rattle.joined_runs.specs.Joined.{Ahead, Later, Overlapped, Delayed}
 pub lent-long : (n : ℕ) (row : List ℕ) → n ≤ length row → n ≡ length (take n row)
 lent-long n row h = sym (length-take-le n row h)
 
--- They are never more.
+-- The first n bytes of a local row are never more than n.
 pub lent-short : (n : ℕ) (row : List ℕ) → length (take n row) ≤ n
 lent-short n row = omega (arith, length-take n row)
 
@@ -60,7 +60,7 @@ reached-later tables left right min max i {starts} {before} {after} row rest b h
 abbrev Moved : List ℕ → ℕ → ℕ → List ℕ
 Moved tables place side = take (place + side - (place + 1)) (drop (place + 1) tables)
 
--- Its byte k is byte k + 1 of the row.
+-- Byte k of the row from its second byte on is byte k + 1 of the row.
 moved-byte : (tables : List ℕ) (place side k : ℕ) → k + 1 < side → getD (Moved tables place side) k 0 ≡ getD tables (place + suc k) 0
 moved-byte tables place side k l =
     getD-take (place + side - (place + 1)) (drop (place + 1) tables) k 0 (omega arith)
@@ -100,7 +100,7 @@ delayed-overlapped tables left right min max i {before} z g h =
     both j (inl (d, p, q, x)) = (suc d, p, q, x)
     both j (inr x) = (0, omega arith, omega arith, x)
 
--- A delay that is never ##0 has those of the one kind.
+-- A delay that is never ##0 has the ends of the later kind alone.
 pub delayed-later : (tables : List ℕ) (left right min max i : ℕ) {before after : List ℕ} → (min ≡ 0 → ⊥)
     → Gains before after (Later tables left right (length before) min max i)
     → Gains before after (Delayed tables left right (length before) min max i)

@@ -15,12 +15,12 @@ use Rattle.joined_runs.specs.Joined.{Ahead}
 abbrev pub Stretch : ℕ → ℕ → ℕ → Type 0
 Stretch low high j = (low ≤ j) × (j < high)
 
--- Those below j were added.
+-- The ends from `low` on that are below j were added.
 pub record Filling (low high : ℕ) (before after : List ℕ) (j : ℕ) : Type 0 where
   pub since : low ≤ j
   pub gained : Gaining before after (Stretch low high) j
 
--- At first none was.
+-- At first no end from `low` on was added.
 pub filling-begins : (low high : ℕ) (row : List ℕ) → Filling low high row row low
 filling-begins low high row = record { since = omega arith; gained = gaining-begins row (Stretch low high) low (λ m (l, k). l) }
 
@@ -32,7 +32,7 @@ filling-on f h l = record {
   gained = gaining-on (f .gained) (omega (arith, f .gained .long)) (inl ((f .since, l), refl));
 }
 
--- At the end all were.
+-- At the end all ends from `low` on, below `high`, were added.
 pub filling-ends : {low high : ℕ} {before after : List ℕ} {j : ℕ} → Filling low high before after j → high ≤ j
     → Gains before after (Stretch low high)
 filling-ends f l = gaining-ends (λ m k q. omega arith) (f .gained)
@@ -43,7 +43,7 @@ pub record Leading (tables : List ℕ) (left min max i : ℕ) (before after : Li
   pub gained : Gains before after
       (λ s. (k : ℕ) × (d : ℕ) × (k < n) × (min ≤ suc d) × (suc d ≤ max) × Kept tables left (length before) i k × (s ≡ k + d))
 
--- At first none was.
+-- At first no end that the left leads to was added.
 pub leading-begins : (tables : List ℕ) (left min max i : ℕ) (row : List ℕ) → Leading tables left min max i row row i
 leading-begins tables left min max i row = record {
   since = omega arith;

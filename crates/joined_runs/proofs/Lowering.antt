@@ -36,7 +36,7 @@ pub record Seeking (tables : List ℕ) (place first j : ℕ) : Type 0 where
   pub since : first ≤ j
   pub none : (m : ℕ) → first ≤ m → m < j → getD tables (place + m) 0 ≡ 1 → ⊥
 
--- At first none was looked at.
+-- At first no byte was looked at.
 pub seeking-begins : (tables : List ℕ) (place first : ℕ) → Seeking tables place first first
 seeking-begins tables place first = record { since = omega arith; none = λ m p q e. omega arith }
 
@@ -53,7 +53,7 @@ pub seeking-found : {tables : List ℕ} {place first high j : ℕ} → Seeking t
     → Lowest (Added tables place first) high j
 seeking-found s l e = record { inside = omega arith; holds = λ _. (s .since, e); none-below = λ m q (p, f). s .none m p q f }
 
--- There is no end.
+-- Where no byte below `high` is an end, the lowest end is `high`.
 pub seeking-ends : {tables : List ℕ} {place first high j : ℕ} → Seeking tables place first j → high ≤ j
     → Lowest (Added tables place first) high high
 seeking-ends s l = record {
@@ -67,7 +67,7 @@ pub record Lowering (tables : List ℕ) (table side i end n : ℕ) : Type 0 wher
   pub since : i ≤ n
   pub lowest : Lowest (λ j. (k : ℕ) × (k < n) × (i ≤ k) × Kept tables table side k j) side end
 
--- At first there is none.
+-- At first no row was looked at, and there is no end.
 pub lowering-begins : (tables : List ℕ) (table side i : ℕ) → Lowering tables table side i side i
 lowering-begins tables table side i = record {
   since = omega arith;

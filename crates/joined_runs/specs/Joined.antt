@@ -1,4 +1,4 @@
--- What joins the runs of two tables: a delay, and a within (01, "What a match is").
+-- What joins the runs of two tables: a delay, and a within (SPECIFICATION, "What a match is").
 -- Example: `##[1:2]` after the run [0, 1) may begin its right operand at the ticks 1 and 2.
 use mathlib.Core.Path.{_≡_}
 use mathlib.Core.List.{List}
@@ -6,7 +6,7 @@ use Prim.Native.Nat.{ℕ, suc, _+_, _≤_, _<_}
 use Rattle.meaning.specs.Match.{Join, Inside}
 use Rattle.runs.specs.Ends.{Kept}
 
--- "##d with d >= 1 sets d - 1 free ticks between two runs": where the right run may begin, after a run of the left from i on.
+-- "With d of at least 1 there are d - 1 free ticks between the two runs": where the right run may begin, after a run of the left from i on.
 abbrev pub Ahead : List ℕ → ℕ → ℕ → ℕ → ℕ → ℕ → ℕ → Type 0
 Ahead tables left side min max i s = (k : ℕ) × (d : ℕ) × (min ≤ suc d) × (suc d ≤ max) × Kept tables left side i k × (s ≡ k + d)
 

@@ -129,7 +129,7 @@ fn earliest(tables: &[u8], table: usize, side: usize, i: usize) -> usize
     end
 }
 
-// Adds the ends of a within from i on: those of the runs of seq2 that a run of seq1 lies in, "an empty one inside any".
+// Adds the ends of a within from i on: those of the runs of seq2 that a run of seq1 lies in, "An empty run lies inside any".
 pub fn inside(tables: &[u8], one: usize, two: usize, i: usize, row: &mut [u8])
     requires { ⌜ Stands (now tables) one (length (now row)) × Stands (now tables) two (length (now row)) × (i < length (now row)) ⌝ }
     ensures { λ _. ⌜ Gains (now (row .entry)) (now (row .exit)) (Within (now (tables .entry)) one two (length (now (row .entry))) i) ⌝ }

@@ -27,7 +27,7 @@ use Rattle.matches.proofs.TablesApart.{ends-before}
 pub record Looking (tables : List ℕ) (table side tick i : ℕ) : Type 0 where
   pub none : (k : ℕ) → k < i → Kept tables table side k (suc tick) → ⊥
 
--- None begins below 0.
+-- No run begins below 0.
 pub looking-begins : (tables : List ℕ) (table side tick : ℕ) → Looking tables table side tick 0
 looking-begins tables table side tick = record { none = λ k l x. omega arith }
 
@@ -36,7 +36,7 @@ module _ {tables : List ℕ} {table side tick i : ℕ} (w : Looking tables table
   pub looking-inside : Stands tables table side → i < side → tick + 1 < side → table + i * side + (tick + 1) < length tables
   looking-inside h l p = omega (arith, row-inside table i side (length tables) h l)
 
-  -- Nor does one begin at i, where the byte is not 1.
+  -- No run that begins at i has its last tick here, where the byte is not 1.
   pub looking-on : (getD tables (table + i * side + (tick + 1)) 0 ≡ 1 → ⊥) → Looking tables table side tick (i + 1)
   looking-on n = record {
     none = λ k l x. elim (ℕ-discrete k i) [
@@ -45,11 +45,11 @@ module _ {tables : List ℕ} {table side tick i : ℕ} (w : Looking tables table
     ];
   }
 
-  -- One that does is found ..
+  -- A run that has its last tick here is found.
   pub a-run-found : tick + 1 < side → i < tick + 1 → getD tables (table + i * side + (tick + 1)) 0 ≡ 1 → Says 1 (EndsAt tables table side tick)
   a-run-found l p e = inl (refl, (i, omega arith, (omega arith, omega arith, rw (add-one tick) at e)))
 
-  -- .. or there is none.
+  -- Where all beginnings were looked at, no run has its last tick here.
   pub none-found : tick + 1 ≤ i → Says 0 (EndsAt tables table side tick)
   none-found l = inr (refl, λ (k, p, x). w .none k (omega arith) x)
 
@@ -60,7 +60,7 @@ pub record EndsPutting (tables : List ℕ) (table ticks : ℕ) (before after : L
   pub says : (k : ℕ) → k < t → Says (getD after k 0) (EndsAt tables table (ticks + 1) k)
   pub later : drop ticks after ≡ drop ticks before
 
--- At first none are.
+-- At first no bytes are put.
 pub ends-putting-begins : (tables : List ℕ) (table ticks : ℕ) (before : List ℕ) → EndsPutting tables table ticks before before 0
 ends-putting-begins tables table ticks before = record { inside = omega arith; long = refl; says = λ k l. absurd (omega arith); later = refl }
 
@@ -78,7 +78,7 @@ module _ {tables : List ℕ} {table ticks : ℕ} {before after : List ℕ} {t : 
     later = drop-set-lt ticks after t byte l ∙ w .later;
   }
 
-  -- At the end all are.
+  -- At the end the bytes of all ticks are put.
   pub ends-putting-ends : ticks ≤ t → EndsPut tables table ticks before after
   ends-putting-ends h = record { long = w .long; says = λ k l. w .says k (omega arith); later = w .later }
 
@@ -118,41 +118,40 @@ ticks-answered {tree} {rows} {width} {ticks} {after = after} x e put = record {
 -- What was judged to have so many ticks.
 module _ (tree rows : List ℕ) (width answers work : ℕ) {answer : Matched} {ticks : ℕ}
     (e : answer ≡ judged tree rows width answers work) (q : answer ≡ Ticks ticks) where
-  -- It can be matched, ..
+  -- What was judged to have so many ticks can be matched.
   matchable : Matchable tree rows width ticks answers work
   matchable = an-answer-is-matchable tree rows width answers work (sym e ∙ q)
 
-  -- .. so that tables can be filled, ..
+  -- Tables can be filled for what was judged to have so many ticks.
   pub ticks-fillable : Fillable tree rows width (ticks + 1) work
   ticks-fillable = record {
     formed = matchable .formed;
     few = matchable .few;
     atoms = matchable .atoms;
-    conditions = matchable .conditions;
     over-atoms = matchable .over-atoms;
     covers = record { begins = omega arith; reaches = rw (add-sub-cancel ticks 1) (omega (arith, matchable .even)) };
     short = omega (arith, matchable .short);
     enough = matchable .enough;
   }
 
-  -- .. and there is a byte for each tick.
+  -- There is a byte of the answers for each tick.
   pub ticks-have-room : ticks ≤ answers
   ticks-have-room = matchable .answered
 
--- Nothing has changed where the answer is a refusal, ..
+-- Nothing has changed where the answer is a refusal.
 pub refused-uncleared : {tree rows : List ℕ} {width number place : ℕ} {answers work : List ℕ} {answer : Matched}
     → answer ≡ judged tree rows width (length answers) (length work) → answer ≡ Refused number place
     → Uncleared tree rows width answers answers work work answer
 refused-uncleared e q = record { answer-is = e; holds = rw q refl; long = refl }
 
--- .. and else the ticks are answered.
+-- Where the answer is no refusal, the ticks are answered.
 pub ticks-uncleared : {tree rows : List ℕ} {width ticks : ℕ} {answers answers′ work work′ : List ℕ} {answer : Matched}
     → answer ≡ judged tree rows width (length answers) (length work) → answer ≡ Ticks ticks
     → Answered tree rows width ticks answers answers′ → length work′ ≡ length work
     → Uncleared tree rows width answers answers′ work work′ (Ticks ticks)
 ticks-uncleared e q answered long = record { answer-is = sym q ∙ e; holds = answered; long = long }
 
--- It is the whole answer once work is cleared.
+-- The answer is whole once work is cleared.
 pub cleared-matches : {tree rows : List ℕ} {width : ℕ} {answers answers′ work work′ work″ : List ℕ} {answer : Matched}
     → Uncleared tree rows width answers answers′ work work′ answer → work″ ≡ replicate (length work′) 0
     → Matches tree rows width answers answers′ work work″ answer

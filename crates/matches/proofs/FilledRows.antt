@@ -22,7 +22,7 @@ use Rattle.matches.proofs.TablesApart.{ends-before, written-replaced, o
 abbrev pub RowPutting : List ℕ → List ℕ → ℕ → List ℕ → ℕ → Type 0
 RowPutting row before place after j = Copying row before place after (place + j) j
 
--- At first none is.
+-- At first no byte is put.
 pub row-putting-begins : (row before : List ℕ) (place : ℕ) → RowPutting row before place before 0
 row-putting-begins row before place = rw add-zero (copying-begins row before place)
 
@@ -32,7 +32,7 @@ pub row-putting-on : {row before : List ℕ} {place : ℕ} {after : List ℕ} {j
 unfolding written
 row-putting-on c h = copying-on c h (record { holds = refl; ends = omega arith })
 
--- At the end all are.
+-- At the end all bytes of the row are put.
 pub row-putting-ends : {row before : List ℕ} {place : ℕ} {after : List ℕ} {j : ℕ} → RowPutting row before place after j → length row ≤ j
     → after ≡ written before place row
 row-putting-ends c h = copying-ends c h .holds
@@ -43,7 +43,7 @@ pub row-in-tables : {tree rows : List ℕ} {width side : ℕ} {tables : List ℕ
 row-in-tables {side = side} {i = i} ready h e =
     omega (arith, ready .fillable .enough, ends-before (side * side) (ready .inside), ends-before side {k = i} {n = side} h)
 
--- So has one that gained ends.
+-- A row that gained ends has its place among the tables.
 pub row-put-inside : {tree rows : List ℕ} {width : ℕ} {tables row row′ : List ℕ} {n i p : ℕ} {P : ℕ → Type 0}
     → Ready tree rows width (length row) tables n → i < length row → p ≡ table-of (length row) n → Gains row row′ P
     → p + i * length row + length row′ ≤ length tables
@@ -72,18 +72,18 @@ row-filled {tree} {rows} {width} {n} {i} {p} {before} {after} {row} {row′} rea
 -- The first zeros, as many as the table has ends.
 module _ {tree rows : List ℕ} {width side : ℕ} {tables : List ℕ} {n : ℕ}
     (zeros : List ℕ) (enough : length zeros ≡ 257) (ready : Ready tree rows width side tables n) where
-  -- Their length is the side, ..
+  -- The first zeros are as long as the side.
   zeros-long : length (take side zeros) ≡ side
   zeros-long = length-take-le side zeros (omega (arith, ready .fillable .short))
 
-  -- .. so that what is known of the side is known of it, ..
+  -- What is known of the side is known of the length of the first zeros.
   pub zeros-ready : Ready tree rows width (length (take side zeros)) tables n
   zeros-ready = rw zeros-long ready
 
   pub zeros-inside : {i : ℕ} → i < side → i < length (take side zeros)
   zeros-inside h = rw zeros-long h
 
-  -- .. and a row that is filled from them is filled.
+  -- A row that is filled from the first zeros is filled.
   pub zeros-filled : {after : List ℕ} {i : ℕ} → RowFilled tree rows width (length (take side zeros)) tables after n i
       → RowFilled tree rows width side tables after n i
   zeros-filled filled = rw zeros-long at filled
@@ -94,7 +94,7 @@ pub record TableFilling (tree rows : List ℕ) (width side : ℕ) (before after 
   pub replaced : Replaced before after (table-of side n) (i * side)
   pub right : (k : ℕ) → k < i → RightRow tree rows width side after n k
 
--- At first none are.
+-- At first no rows are filled.
 pub table-filling-begins : (tree rows : List ℕ) (width side : ℕ) (tables : List ℕ) (n : ℕ) → TableFilling tree rows width side tables tables n 0
 table-filling-begins tree rows width side tables n = record {
   inside = omega arith;
@@ -127,7 +127,7 @@ module _ {tree rows : List ℕ} {width side : ℕ} {before after : List ℕ} {n 
     ];
   }
 
-  -- At the end all are.
+  -- At the end all rows are filled.
   pub table-filling-ends : side ≤ i → TableFilled tree rows width side before after n
   table-filling-ends h =
       let all : i ≡ side = omega (arith, f .inside) in

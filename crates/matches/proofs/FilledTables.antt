@@ -15,11 +15,11 @@ use Rattle.meaning.specs.declared.Node.{Node}
 use Rattle.matches.specs.Tables.{Fillable, JoinsTwo, Ready, TableFilled, Filled}
 use Rattle.matches.proofs.TablesApart.{apart}
 
--- The node can be read: its words are there, ..
+-- A node's words are there to be read.
 pub node-readable : {tree rows : List ℕ} {width side room n : ℕ} → Fillable tree rows width side room → n < nodes tree → n * 5 + 5 ≤ length tree
 node-readable f h = omega (arith, f .formed .whole)
 
--- .. and it is one of few.
+-- A node is one of few.
 pub node-of-few : {tree rows : List ℕ} {width side room n : ℕ} → Fillable tree rows width side room → n < nodes tree → n < 4096
 node-of-few f h = omega (arith, f .few)
 
@@ -31,51 +31,51 @@ fillable-still f x = rw (x .long) f
 -- A node whose words are v.
 module _ {tree rows : List ℕ} {width side room n : ℕ} {v : Node}
     (f : Fillable tree rows width side room) (h : n < nodes tree) (w : v ≡ node-at tree n) where
-  -- They are in order.
+  -- The node's words are in order.
   formed : WellFormed n v
   formed = rw w (f .formed .each n h)
 
-  -- The operand of a repetition is lower, ..
+  -- The operand of a repetition is lower.
   pub repeated-lower : {m : ℕ} → n ≡ m → v .kind ≡ 3 → v .p < m
   repeated-lower e k = omega (arith, formed .consec-under k)
 
-  -- .. and so one of the tree's nodes.
+  -- The operand of a repetition is one of the tree's nodes.
   pub repeated-inside : v .kind ≡ 3 → v .p < nodes tree
   repeated-inside k = omega (arith, formed .consec-under k)
 
-  -- That of a throughout is lower, ..
+  -- The operand of a throughout is lower.
   pub covered-lower : {m : ℕ} → n ≡ m → v .kind ≡ 6 → v .q < m
   covered-lower e k = omega (arith, formed .throughout-under k)
 
-  -- .. and so one of the tree's nodes.
+  -- The operand of a throughout is one of the tree's nodes.
   pub covered-inside : v .kind ≡ 6 → v .q < nodes tree
   covered-inside k = omega (arith, formed .throughout-under k)
 
   module _ {joins : Bool} (t : Tells joins (JoinsTwo v)) (e : joins ≡ true) where
-    -- Both of a delay or a within are below the node, ..
+    -- Both operands of a delay or a within are below the node.
     both-below : (v .p < n) × (v .q < n)
     both-below = ⊎-elim (λ k. (formed .delay-left k, formed .delay-right k)) (λ k. (formed .within-one k, formed .within-two k)) (told t e)
 
-    -- .. the left one lower, ..
+    -- The left operand of a delay or a within is lower.
     pub left-lower : {m : ℕ} → n ≡ m → v .p < m
     left-lower q = omega (arith, both-below .0)
 
-    -- .. and so one of the tree's nodes, ..
+    -- The left operand of a delay or a within is one of the tree's nodes.
     pub left-inside : v .p < nodes tree
     left-inside = omega (arith, both-below .0)
 
-    -- .. and the right one lower, ..
+    -- The right operand of a delay or a within is lower.
     pub right-lower : {m : ℕ} → n ≡ m → v .q < m
     right-lower q = omega (arith, both-below .1)
 
-    -- .. and so one of them too.
+    -- The right operand of a delay or a within is one of the tree's nodes.
     pub right-inside : v .q < nodes tree
     right-inside = omega (arith, both-below .1)
 
--- Its table can be filled once those of its operands are.
+-- The table of a node can be filled once those of its operands are.
 module _ {tree rows : List ℕ} {width side : ℕ} {before : List ℕ} {n : ℕ} {v : Node}
     (f : Fillable tree rows width side (length before)) (h : n < nodes tree) (w : v ≡ node-at tree n) where
-  -- That of a repetition, ..
+  -- The table of a repetition can be filled once that of its operand is.
   pub ready-to-repeat : {mid : List ℕ} → v .kind ≡ 3 → Filled tree rows width side before mid (v .p) → Ready tree rows width side mid n
   ready-to-repeat e x =
       let k : node-at tree n .kind ≡ 3 = rw w at e in
@@ -88,7 +88,7 @@ module _ {tree rows : List ℕ} {width side : ℕ} {before : List ℕ} {n : ℕ}
         under = λ z. absurd (omega arith);
       }
 
-  -- .. that of a throughout, ..
+  -- The table of a throughout can be filled once that of its operand is.
   pub ready-to-cover : {mid : List ℕ} → v .kind ≡ 6 → Filled tree rows width side before mid (v .q) → Ready tree rows width side mid n
   ready-to-cover e x =
       let k : node-at tree n .kind ≡ 6 = rw w at e in
@@ -101,7 +101,7 @@ module _ {tree rows : List ℕ} {width side : ℕ} {before : List ℕ} {n : ℕ}
         under = λ _. rw w at (x .right);
       }
 
-  -- .. and that of a delay or a within, whose left operand is filled first.
+  -- The table of a delay or a within can be filled once those of its operands are, the left one's first.
   pub ready-to-join : {mid after : List ℕ} {joins : Bool} → Tells joins (JoinsTwo v) → joins ≡ true
       → Filled tree rows width side before mid (v .p) → Filled tree rows width side mid after (v .q) → Ready tree rows width side after n
   ready-to-join t e x y = record {
@@ -134,17 +134,17 @@ module _ {tree rows : List ℕ} {width side : ℕ} where
     stays = λ k r. elim (ℕ-discrete k n) [ yes e ↦ rw e (t .right) | no other ↦ apart k (t .replaced) (omega arith) other r ];
   }
 
-  -- Nor does one filling after another.
+  -- One filling after another spoils no table that is right.
   filled-then : {before mid after : List ℕ} {k n : ℕ} → Filled tree rows width side before mid k → Filled tree rows width side mid after n
       → Filled tree rows width side before after n
   filled-then x y = record { long = y .long ∙ x .long; right = y .right; stays = λ k r. y .stays k (x .stays k r) }
 
-  -- So a table is filled after that of one operand, ..
+  -- A table is filled after that of one operand.
   pub filled-after : {before mid after : List ℕ} {k n : ℕ} → Filled tree rows width side before mid k
       → TableFilled tree rows width side mid after n → Filled tree rows width side before after n
   filled-after x t = filled-then x (filled-alone t)
 
-  -- .. and after those of two.
+  -- A table is filled after those of two operands.
   pub filled-after-two : {before mid later after : List ℕ} {k l n : ℕ} → Filled tree rows width side before mid k
       → Filled tree rows width side mid later l → TableFilled tree rows width side later after n → Filled tree rows width side before after n
   filled-after-two x y t = filled-then x (filled-after y t)

@@ -9,11 +9,11 @@ use Rattle.words.specs.Choice.{Tells}
 use Rattle.meaning.specs.declared.Node.{Node}
 use Rattle.matches.specs.Tables.{JoinsTwo}
 
--- A delay does.
+-- A delay joins two operands.
 pub joins-two-delay : (v : Node) → v .kind ≡ 2 → Tells true (JoinsTwo v)
 joins-two-delay v e = inl (refl, inl e)
 
--- Of the others a within does.
+-- Of the nodes that are no delay a within joins two operands.
 pub joins-two-within : (v : Node) → (v .kind ≡ 2 → ⊥) → Tells (eqb (v .kind) 7) (JoinsTwo v)
 joins-two-within v n =
     elim (ℕ-discrete (v .kind) 7) [

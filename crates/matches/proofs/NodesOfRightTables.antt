@@ -41,11 +41,11 @@ module _ (tree rows : List ℕ) (width side : ℕ) (tables : List ℕ) (n : ℕ)
   abbrev v : Node
   v = node-at tree n
 
-  -- They are in order.
+  -- The node's words are in order.
   formed : WellFormed n v
   formed = ready .fillable .formed .each n (ready .inside)
 
-  -- The runs of its tree.
+  -- The runs of the node's tree.
   abbrev matched : Runs
   matched = Match (recorded rows width) (tree-at tree n)
 
@@ -57,7 +57,7 @@ module _ (tree rows : List ℕ) (width side : ℕ) (tables : List ℕ) (n : ℕ)
   pub occurs-matched : v .kind ≡ 1 → SameBelow side (Occurs (recorded rows width) (v .p)) matched
   occurs-matched e i j h = rw (at-atom tree n e) (λ x. x, λ x. x)
 
-  -- Those of a delay join the operands' runs.
+  -- A delay's runs join the operands' runs.
   pub delayed-matched : v .kind ≡ 2 → SameBelow side (Delayed tables (table-of side (v .p)) (table-of side (v .q)) side (v .min) (v .max)) matched
   delayed-matched e i j h = rw (at-delay tree n e (formed .delay-left e) (formed .delay-right e)) (
     λ (d, l, u, x). (d, l, up-to-the-word d (v .max) u, joined d .0 x),
@@ -78,7 +78,7 @@ module _ (tree rows : List ℕ) (width side : ℕ) (tables : List ℕ) (n : ℕ)
       joined : (d : ℕ) → Join d (Kept tables (table-of side (v .p)) side) (Kept tables (table-of side (v .q)) side) i j ↔ Join d left right i j
       joined d = join-same side _ right (ready .right (inl e) .runs) (forward (v .q)) d _ left (ready .left (inl e) .runs) i j h
 
-  -- Those of a consecutive repetition repeat the operand's runs.
+  -- A consecutive repetition's runs repeat the operand's runs.
   pub repeated-matched : v .kind ≡ 3 → SameBelow side (Repeated tables (table-of side (v .p)) side (v .min) (v .max)) matched
   repeated-matched e i j h = rw (at-consec tree n e (formed .consec-under e)) (
     λ (c, l, u, xs). (c, l, up-to-the-word c (v .max) u, copies c .0 xs),
@@ -95,23 +95,23 @@ module _ (tree rows : List ℕ) (width side : ℕ) (tables : List ℕ) (n : ℕ)
       copies : (c : ℕ) → Times c (Kept tables (table-of side (v .p)) side) i j ↔ Times c under i j
       copies c = times-same side _ under (ready .repeated e .runs) (forward (v .p)) c i j h
 
-  -- Those of a goto repetition go from one tick of its atom to the next.
+  -- A goto repetition's runs go from one tick of its atom to the next.
   pub goto-matched : v .kind ≡ 4 → SameBelow side (Counted false rows width (node-at tree (v .p) .p) (v .min)) matched
   goto-matched e i j h =
       rw (at-goto tree n e (formed .goto-under e), at-atom tree (v .p) (ready .fillable .over-atoms n (ready .inside) (inl e))) (λ x. x, λ x. x)
 
-  -- Those of a nonconsecutive repetition may go on behind the last.
+  -- A nonconsecutive repetition's runs may go on behind the last tick of its atom.
   pub nonconsec-matched : v .kind ≡ 5 → SameBelow side (Counted true rows width (node-at tree (v .p) .p) (v .min)) matched
   nonconsec-matched e i j h =
       rw (at-nonconsec tree n e (formed .nonconsec-under e), at-atom tree (v .p) (ready .fillable .over-atoms n (ready .inside) (inr e))) (λ x. x, λ x. x)
 
-  -- Those of a throughout are the operand's runs at every tick of which the condition holds.
+  -- A throughout's runs are the operand's runs at every tick of which the condition holds.
   pub throughout-matched : v .kind ≡ 6 → SameBelow side (Throughout tables (table-of side (v .q)) side rows width (v .p)) matched
   throughout-matched e i j h =
       let under = ready .under e .runs i j h in
       rw (at-throughout tree n e (formed .throughout-under e)) (λ (x, y). (under .0 x, y), λ (x, y). (under .1 x, y))
 
-  -- Those of a within are the runs of its second operand that one of the first lies in.
+  -- A within's runs are the runs of its second operand that one of the first lies in.
   pub inside-matched : v .kind ≡ 7 → SameBelow side (Within tables (table-of side (v .p)) (table-of side (v .q)) side) matched
   inside-matched e i j h =
       rw (at-within tree n e (formed .within-one e) (formed .within-two e))

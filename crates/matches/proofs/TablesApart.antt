@@ -21,11 +21,11 @@ use Rattle.matches.specs.Tables.{table-of, Right, RightRow, Ready, Repla
 pub ends-before : (size : ℕ) {k n : ℕ} → k < n → k * size + size ≤ n * size
 ends-before size {k} {n} h = omega (arith, suc-mul k size, mul-le-mul-right {m = suc k} {n = n} size h)
 
--- A table is small, ..
+-- A table is small.
 pub square-small : {side : ℕ} → side ≤ 257 → side * side ≤ 66049
 square-small h = mul-le-mul h h
 
--- .. and so are all tables in front of one.
+-- All tables in front of one are small.
 pub table-small : {side n : ℕ} → side ≤ 257 → n < 64 → table-of side n ≤ 4227136
 table-small h l = mul-le-mul {n₂ = 64} (omega arith) (square-small h)
 

@@ -1,4 +1,4 @@
--- What the matcher answers (02, ticket 3), by the definition of a match alone: `Match`, which demand 3 speaks of too.
+-- What the matcher answers (SPECIFICATION, "The matcher"), by the definition of a match alone: `Match`, which demand 3 speaks of too.
 -- Example: `a ##1 b` over the rows 1 0, 0 1 is answered 0 1: a match ends at tick 1.
 use mathlib.Core.Path.{_≡_}
 use mathlib.Core.Logic.{_⊎_}
@@ -13,7 +13,7 @@ use Rattle.recording.specs.Refusals.{judged}
 use Rattle.recording.specs.declared.Matched.{Matched}
 use Rattle.recording.specs.declared.Matched.the-variants.{Ticks, Refused}
 
--- Some match of the tree, as the standard defines it, began at tick 0 or later and ends at tick n. It has a tick: "only non-empty runs".
+-- Some match of the tree, as the standard defines it, began at tick 0 or later and ends at tick n. It has a tick: "a match that has at least one tick".
 abbrev pub AMatchEnds : List ℕ → (ℕ → List ℕ) → ℕ → Type 0
 AMatchEnds tree atoms n = (i : ℕ) × (i ≤ n) × Match (trace atoms) (root tree) i (suc n)
 
@@ -21,13 +21,13 @@ AMatchEnds tree atoms n = (i : ℕ) × (i ≤ n) × Match (trace atoms) (root tr
 abbrev pub Says : ℕ → Type 0 → Type 0
 Says byte P = ((byte ≡ 1) × P) ⊎ ((byte ≡ 0) × (P → ⊥))
 
--- "the answer is one byte a tick, later bytes unchanged".
+-- "Bytes of the answers behind the ticks stay as they were".
 pub record Answered (tree rows : List ℕ) (width ticks : ℕ) (before after : List ℕ) : Type 0 where
   pub long : length after ≡ length before
   pub says : (t : ℕ) → t < ticks → Says (getD after t 0) (AMatchEnds tree (atoms-at rows width) t)
   pub later : drop ticks after ≡ drop ticks before
 
--- What the answers hold; "lent outputs unchanged" on a refusal.
+-- What the answers hold; "What was lent for output is then unchanged" on a refusal.
 abbrev pub Holds : Matched → List ℕ → List ℕ → ℕ → List ℕ → List ℕ → Type 0
 Holds (Ticks ticks) tree rows width before after = Answered tree rows width ticks before after
 Holds (Refused number place) tree rows width before after = after ≡ before

@@ -6,8 +6,10 @@ use mathlib.Core.List.{List}
 use Prim.Native.Nat.{ℕ, _+_, _*_, _≤_, _<_}
 use lib.ListN.{length, getD}
 use Rattle.meaning.specs.Tree.{tree-at, node-at, nodes}
+use Rattle.meaning.specs.Kinds.{columns}
 use Rattle.meaning.specs.Match.{Match}
 use Rattle.meaning.specs.Lowerable.{FormedTable}
+use Rattle.meaning.specs.declared.Part.the-variants.{Atom}
 use Rattle.meaning.specs.declared.Node.{Node}
 use Rattle.runs.specs.Ends.{In, Kept}
 use Rattle.recorded_runs.specs.Recorded.{recorded, Covers}
@@ -20,7 +22,7 @@ table-of side n = n * (side * side)
 pub record Right (tree rows : List ℕ) (width side : ℕ) (tables : List ℕ) (n : ℕ) : Type 0 where
   pub runs : (i j : ℕ) → j < side → Kept tables (table-of side n) side i j ↔ Match (recorded rows width) (tree-at tree n) i j
 
--- .. and its row i those that begin at i.
+-- Row i of the table of node n has the runs that its tree matches and that begin at i.
 pub record RightRow (tree rows : List ℕ) (width side : ℕ) (tables : List ℕ) (n i : ℕ) : Type 0 where
   pub ends : (j : ℕ) → j < side → (getD tables (table-of side n + i * side + j) 0 ≡ 1) ↔ Match (recorded rows width) (tree-at tree n) i j
 
@@ -29,8 +31,7 @@ pub record RightRow (tree rows : List ℕ) (width side : ℕ) (tables : List ℕ
 pub record Fillable (tree rows : List ℕ) (width side room : ℕ) : Type 0 where
   pub formed : FormedTable tree
   pub few : nodes tree ≤ 64
-  pub atoms : (n : ℕ) → n < nodes tree → node-at tree n .kind ≡ 1 → node-at tree n .p < width
-  pub conditions : (n : ℕ) → n < nodes tree → node-at tree n .kind ≡ 6 → node-at tree n .p < width
+  pub atoms : (n : ℕ) → n < nodes tree → columns (node-at tree n .kind) .p ≡ Atom → node-at tree n .p < width
   pub over-atoms : (n : ℕ) → n < nodes tree → (node-at tree n .kind ≡ 4) ⊎ (node-at tree n .kind ≡ 5) → node-at tree (node-at tree n .p) .kind ≡ 1
   pub covers : Covers rows width side
   pub short : side ≤ 257

@@ -1,4 +1,4 @@
-// The matcher: at which recorded ticks a match of a sequence ends, decided by 01's "What a match is" and without the lowering (02, ticket 3).
+// The matcher: at which recorded ticks a match of a sequence ends, decided by SPECIFICATION, "What a match is", and without the lowering.
 //
 // Every node has a table of its runs, (ticks + 1) squared bytes of work, filled from those of its operands by recursion on the node number.
 // So all seven kinds may stand anywhere, and the cost grows with the nodes and with the ticks alone.
@@ -40,30 +40,31 @@ fn add_ends_of(
 {
     let side = row.len();
     let v = tree::read(tree, n);
-    if v.kind == 1 {
+    if v.kind == meaning::kind::ATOM {
         recorded_runs::occurs(rows, width, v.p, i, row);
         return;
     }
-    if v.kind == 2 {
+    if v.kind == meaning::kind::DELAY {
         let left = table_of(side, v.p);
         let right = table_of(side, v.q);
         joined_runs::delayed(tables, left, right, v.min, v.max, i, row);
         return;
     }
-    if v.kind == 3 {
+    if v.kind == meaning::kind::CONSECUTIVE {
         repeated_runs::repeated(tables, table_of(side, v.p), v.min, v.max, i, row);
         return;
     }
-    if v.kind == 6 {
+    if v.kind == meaning::kind::THROUGHOUT {
         recorded_runs::throughout(tables, table_of(side, v.q), rows, width, v.p, i, row);
         return;
     }
-    if v.kind == 7 {
+    if v.kind == meaning::kind::WITHIN {
         joined_runs::inside(tables, table_of(side, v.p), table_of(side, v.q), i, row);
         return;
     }
     let atom = tree::read(tree, v.p);
-    recorded_runs::counted(rows, width, atom.p, v.min, v.kind == 5, i, row);
+    let goes_on = v.kind == meaning::kind::NONCONSECUTIVE;
+    recorded_runs::counted(rows, width, atom.p, v.min, goes_on, i, row);
 }
 
 // Puts a row into the tables at the place.
@@ -129,10 +130,10 @@ fn fill_table(tree: &[u32], rows: &[u8], width: usize, side: usize, n: u32, tabl
 fn joins_two(v: meaning::Node) -> bool
     ensures { λ r. ⌜ Tells r (JoinsTwo v) ⌝ }
 {
-    if v.kind == 2 {
+    if v.kind == meaning::kind::DELAY {
         return true;
     }
-    v.kind == 7
+    v.kind == meaning::kind::WITHIN
 }
 
 // Fills the tables of node n and of all below it, the operands' first. Goto and nonconsecutive repetition read their atom off the rows.
@@ -141,12 +142,12 @@ fn fill(tree: &[u32], rows: &[u8], width: usize, side: usize, n: u32, tables: &m
     ensures { λ _. ⌜ Filled (now (tree .entry)) (now (rows .entry)) width side (now (tables .entry)) (now (tables .exit)) n ⌝ }
 {
     let v = tree::read(tree, n);
-    if v.kind == 3 {
+    if v.kind == meaning::kind::CONSECUTIVE {
         fill(tree, rows, width, side, v.p, tables);
         fill_table(tree, rows, width, side, n, tables);
         return;
     }
-    if v.kind == 6 {
+    if v.kind == meaning::kind::THROUGHOUT {
         fill(tree, rows, width, side, v.q, tables);
         fill_table(tree, rows, width, side, n, tables);
         return;

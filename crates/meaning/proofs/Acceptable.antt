@@ -4,9 +4,10 @@ use mathlib.Core.Path.{_≡_}
 use mathlib.Core.Logic.{_⊎_}
 use mathlib.Core.List.{List, [], _∷_}
 use Prim.Native.Nat.{zero, suc, _≤_}
-use Rattle.meaning.specs.Tree.{finite, unbounded, Seq, atom, delay, consec, goto, nonconsec, throughout, within, operand}
+use Rattle.meaning.specs.Tree.{finite, unbounded, Seq, atom, delay, consec, goto, nonconsec, throughout, within, Rooted, a-within, another, rooted, operand}
 use Rattle.meaning.specs.Match.{UpTo}
 use Rattle.meaning.specs.Lowerable.{IsBoolean}
+use Rattle.meaning.specs.Demand3.{under-throughouts}
 use Rattle.meaning.specs.Alternative.{Guard, unguarded, guard, SeqAlt, expand}
 use Rattle.meaning.specs.declared.SeqTerm.{SeqTerm}
 use Rattle.meaning.specs.declared.SeqTerm.the-variants.{Bool as BoolTerm, Goto, Nonconsec, ConsecAtLeast, Empty}
@@ -75,7 +76,7 @@ abbrev pub Rule9 : List SeqStep → Type 0
 Rule9 [] = ⊥
 Rule9 (s ∷ ss) = IsBool (s .term) × Plain ss
 
--- Of every alternative.
+-- The rules 7 and 12 of every alternative.
 abbrev pub Rules7And12 : List SeqAlt → Type 0
 Rules7And12 alts = (y : SeqAlt) → In y alts → Rule7 (y .guard) (y .steps) × Rule12 (y .steps)
 
@@ -94,22 +95,14 @@ Regular (nonconsec n s k) = IsBoolean (operand s) × (1 ≤ k)
 Regular (throughout n c s) = ⊥
 Regular (within n s₁ s₂) = ⊥
 
--- A chain of throughouts over such a tree.
+-- A chain of throughouts over a regular tree.
 abbrev pub RegularChain : Seq → Type 0
-RegularChain (throughout n c s) = RegularChain s
-RegularChain (atom n a) = Regular (atom n a)
-RegularChain (delay n l r m x) = Regular (delay n l r m x)
-RegularChain (consec n s m x) = Regular (consec n s m x)
-RegularChain (goto n s k) = Regular (goto n s k)
-RegularChain (nonconsec n s k) = Regular (nonconsec n s k)
-RegularChain (within n s₁ s₂) = ⊥
+RegularChain s = Regular (under-throughouts s)
 
 -- A whole tree, whose root may be a within.
+abbrev pub AcceptableRooted : Rooted → Type 0
+AcceptableRooted (a-within n x y) = Regular x × Regular y × Rules9 (expand x) × Rules9 (expand y)
+AcceptableRooted (another s) = RegularChain s × Rules7And12 (expand s)
+
 abbrev pub Acceptable : Seq → Type 0
-Acceptable (within n x y) = Regular x × Regular y × Rules9 (expand x) × Rules9 (expand y)
-Acceptable (atom n a) = RegularChain (atom n a) × Rules7And12 (expand (atom n a))
-Acceptable (delay n l r m x) = RegularChain (delay n l r m x) × Rules7And12 (expand (delay n l r m x))
-Acceptable (consec n s m x) = RegularChain (consec n s m x) × Rules7And12 (expand (consec n s m x))
-Acceptable (goto n s k) = RegularChain (goto n s k) × Rules7And12 (expand (goto n s k))
-Acceptable (nonconsec n s k) = RegularChain (nonconsec n s k) × Rules7And12 (expand (nonconsec n s k))
-Acceptable (throughout n c s) = RegularChain (throughout n c s) × Rules7And12 (expand (throughout n c s))
+Acceptable s = AcceptableRooted (rooted s)

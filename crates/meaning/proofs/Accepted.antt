@@ -4,10 +4,11 @@ use mathlib.Core.Path.{_≡_}
 use Prim.Native.Nat.{ℕ, zero, suc}
 use Rattle.meaning.specs.Tree.{finite, unbounded, Seq, atom, delay, consec, goto, nonconsec, throughout, within}
 use Rattle.meaning.specs.Alternative.{expand}
-use Rattle.meaning.specs.Refusals.{nowhere, first-misplaced, misplaced}
-use Rattle.meaning.specs.Lowerable.{Ranged, Walkable, WalkableRoot}
+use Rattle.meaning.specs.Refusals.{nowhere, misplaced-rooted, misplaced}
+use Rattle.meaning.specs.Lowerable.{Ranged, Walkable, WalkableRooted, WalkableRoot}
 use Rattle.meaning.specs.Demand3.{Unconditional, ThroughoutOnTop}
-use Rattle.meaning.proofs.Acceptable.{Rule7, Rules7And12, Regular, RegularChain, Acceptable}
+use Rattle.meaning.proofs.Acceptable.{Rule7, Regular, RegularChain, AcceptableRooted, Acceptable}
+use Rattle.meaning.proofs.Roots.{by-root, by-throughouts}
 use Rattle.meaning.proofs.EveryAlternative.{Every}
 use Rattle.meaning.proofs.Rules.{rule-7-of-throughout, rule-7-without-throughout, rules-9, none-misplaced}
 
@@ -34,37 +35,26 @@ an-unconditional-tree-is-regular room (within n s₁ s₂) R W U = absurd W
 -- Under a chain of throughouts; a within under one would have been refused by 8.
 pub a-walked-chain-is-regular : (room : ℕ) (s : Seq) → Ranged s → Walkable room s → ThroughoutOnTop s → RegularChain s
 unfolding Ranged Walkable
-a-walked-chain-is-regular room (throughout n c s) R W U = a-walked-chain-is-regular room s (R .1) (W .0) U
-a-walked-chain-is-regular room (atom n a) R W U = an-unconditional-tree-is-regular room (atom n a) R W U
-a-walked-chain-is-regular room (delay n l r m x) R W U = an-unconditional-tree-is-regular room (delay n l r m x) R W U
-a-walked-chain-is-regular room (consec n s m x) R W U = an-unconditional-tree-is-regular room (consec n s m x) R W U
-a-walked-chain-is-regular room (goto n s k) R W U = an-unconditional-tree-is-regular room (goto n s k) R W U
-a-walked-chain-is-regular room (nonconsec n s k) R W U = an-unconditional-tree-is-regular room (nonconsec n s k) R W U
-a-walked-chain-is-regular room (within n s₁ s₂) R W U = absurd W
+a-walked-chain-is-regular room =
+    by-throughouts (λ s x. Ranged s → Walkable room s → Unconditional x → Regular x) (λ n c s x under R W. under (R .1) (W .0))
+    (an-unconditional-tree-is-regular room)
 
--- A root other than a within: the shape of the tree, and its alternatives.
-
--- 7 and 12 together.
-accepted-alternatives : (s : Seq) → Every (λ y. Rule7 (y .guard) (y .steps)) (expand s) → first-misplaced 0 (expand s) ≡ nowhere → Rules7And12 (expand s)
-accepted-alternatives s rule-7 e y m = (rule-7 y m, none-misplaced 0 (expand s) e y m)
-
--- Every kind but throughout and within.
-accepted-unconditional : (room : ℕ) (s : Seq) → Ranged s → Walkable room s → first-misplaced 0 (expand s) ≡ nowhere → Unconditional s
-    → Regular s × Rules7And12 (expand s)
-accepted-unconditional room s R W e U =
-    let regular = an-unconditional-tree-is-regular room s R W U in (regular, accepted-alternatives s (rule-7-without-throughout s regular) e)
+-- 7: a throughout stands over plain alternatives, because the walk looked at what is under it; elsewhere there is no guard.
+rule-7-of-a-chain : (room : ℕ) (s : Seq) → Walkable room s → RegularChain s → Every (λ y. Rule7 (y .guard) (y .steps)) (expand s)
+unfolding Walkable
+rule-7-of-a-chain room =
+    by-throughouts (λ s x. Walkable room s → Regular x → Every (λ y. Rule7 (y .guard) (y .steps)) (expand s))
+    (λ n c s x under W R. rule-7-of-throughout c s (W .1) n) (λ s W R. rule-7-without-throughout s R)
 
 -- The whole tree. Every within has plain operands, so that 12 need not be looked for there.
 pub an-accepted-tree-is-acceptable : (room : ℕ) (s : Seq) → Ranged s → WalkableRoot room s → misplaced s ≡ nowhere → ThroughoutOnTop s → Acceptable s
-unfolding Ranged Walkable WalkableRoot misplaced
-an-accepted-tree-is-acceptable room (within n x y) R W e U =
+unfolding Ranged WalkableRoot misplaced
+an-accepted-tree-is-acceptable room =
+    by-root (λ s v. Ranged s → WalkableRooted room v → misplaced-rooted v ≡ nowhere → ThroughoutOnTop s → AcceptableRooted v)
+    (λ n x y R W e U.
     let one = an-unconditional-tree-is-regular room x (R .0) (W .0) (U .0) in
     let two = an-unconditional-tree-is-regular room y (R .1) (W .1) (U .1) in
-    (one, two, rules-9 x one (W .2 .one), rules-9 y two (W .2 .two))
-an-accepted-tree-is-acceptable room (atom n a) R W e U = accepted-unconditional room (atom n a) R W e U
-an-accepted-tree-is-acceptable room (delay n l r m x) R W e U = accepted-unconditional room (delay n l r m x) R W e U
-an-accepted-tree-is-acceptable room (consec n s m x) R W e U = accepted-unconditional room (consec n s m x) R W e U
-an-accepted-tree-is-acceptable room (goto n s k) R W e U = accepted-unconditional room (goto n s k) R W e U
-an-accepted-tree-is-acceptable room (nonconsec n s k) R W e U = accepted-unconditional room (nonconsec n s k) R W e U
-an-accepted-tree-is-acceptable room (throughout n c s) R W e U =
-    (a-walked-chain-is-regular room s (R .1) (W .0) U, accepted-alternatives (throughout n c s) (rule-7-of-throughout c s (W .1) n) e)
+    (one, two, rules-9 x one (W .2 .one), rules-9 y two (W .2 .two)))
+    (λ s R W e U.
+    let chain = a-walked-chain-is-regular room s R W U in
+    (chain, λ y m. (rule-7-of-a-chain room s W chain y m, none-misplaced 0 (expand s) e y m)))

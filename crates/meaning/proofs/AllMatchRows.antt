@@ -1,4 +1,4 @@
--- What a match is, felt clause by clause: a table of runs, each worked out by hand from 01's "What a match is" and from IEEE 1800 16.7
+-- What a match is, felt clause by clause: a table of runs, each worked out by hand from SPECIFICATION, "What a match is", and from IEEE 1800 16.7
 -- and 16.9, and one statement about all of them. No tree that demand 3 speaks of has an empty side of ##0, an empty seq1, a within or a
 -- throughout under another kind, or a goto over no Boolean, so that no other theorem would notice a clause of `Match` that is wrong there.
 use mathlib.Core.Path.{_≡_, refl, sym}
@@ -220,7 +220,7 @@ is-yes (no f) = false
 abbrev found : MatchRow → Bool
 found row = let r = row .run in is-yes (match-decided (trace-of r) (row .sequence) (r .from) (r .upto))
 
--- What is found as a row says is as it says, and so are all of them.
+-- What is found as a row says is as the row says, of one row and of all rows.
 as-found : {M : Type 0} (d : Dec M) (said : Bool) → is-yes d ≡ said → Says said M
 as-found (yes m) true e = m
 as-found (yes m) false e = absurd (false-is-not-true (sym e))

@@ -1,4 +1,4 @@
--- 01's starred rows: a table of trees with the answer and the words that 01 gives, and one statement about all of them.
+-- The starred rows of SPECIFICATION, "Cases": a table of trees with the answer and the words given there, and one statement about all of them.
 use mathlib.Core.Path.{_≡_, refl}
 use mathlib.Core.List.{List, [], _∷_, _++_, map}
 use Prim.Native.Nat.{ℕ}
@@ -6,6 +6,7 @@ use lib.ListN.{replicate}
 use Rattle.words.specs.Choice.{pick}
 use Rattle.words.specs.Written.{written}
 use Rattle.meaning.specs.Tree.{node-at, tree-at, unlimited}
+use Rattle.meaning.specs.Kinds.{columns}
 use Rattle.meaning.specs.Listing.{word, rows, row-of, deepest, deepest-from}
 use Rattle.meaning.specs.Refusals.{lowest-failing, formed-node, uses-in, uses, range-node, table, limited, and-then, deep-enough, over-boolean, walk-in, walk, limited-within, walk-root, room-of, first-misplaced, misplaced}
 use Rattle.meaning.specs.Lower.{synth-of, words-of, fits, after-walk, after-table, after-nothing, lower, output-after}
@@ -37,7 +38,7 @@ throughout condition under = 6 ∷ condition ∷ under ∷ 0 ∷ 0 ∷ []
 abbrev within : ℕ → ℕ → List ℕ
 within seq1 seq2 = 7 ∷ seq1 ∷ seq2 ∷ 0 ∷ 0 ∷ []
 
--- 01's tokens.
+-- The listing's tokens.
 abbrev a : ℕ → ℕ
 a n = word 1 n
 
@@ -80,7 +81,7 @@ accepted t registers words deepest ws = record { tree = t; answer = Listing regi
 abbrev refused : List ℕ → ℕ → ℕ → Starred
 refused t number place = record { tree = t; answer = Refused number place; words = [] }
 
--- a, b, c are the atoms 0, 1, 2; the rows stand in 01's order.
+-- a, b, c are the atoms 0, 1, 2; the rows stand in the specification's order.
 pub starred : List Starred
 starred =
     accepted (atom 0) 0 2 1 (a 0 ∷ match ∷ [])
@@ -126,5 +127,5 @@ found row =
     result answer (output-after answer (row .tree) 0 lent)
 
 pub the-starred-rows-hold : map found starred ≡ map stated starred
-unfolding starred lower after-nothing table lowest-failing formed-node uses-in uses range-node node-at tree-at after-table walk-root walk walk-in deep-enough limited and-then over-boolean limited-within room-of misplaced first-misplaced after-walk synth-of words-of fits rows row-of deepest deepest-from output-after written pick
+unfolding starred lower after-nothing table lowest-failing formed-node uses-in uses range-node columns node-at tree-at after-table walk-root walk walk-in deep-enough limited and-then over-boolean limited-within room-of misplaced first-misplaced after-walk synth-of words-of fits rows row-of deepest deepest-from output-after written pick
 the-starred-rows-hold = refl

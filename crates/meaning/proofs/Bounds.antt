@@ -13,12 +13,13 @@ use Rattle.meaning.specs.Expression.{Expr, a·, r·, one·, any, and·, 
 use Rattle.meaning.specs.Alternative.{Guard, unguarded, guard, and-opt, SeqAlt, step, single, rehop, join-rights, join-lefts, join-hops, hops, copies, copies-from, with-empty, over, consec-unbounded, guard-each, expand}
 use Rattle.meaning.specs.Machines.{bb, nbb, goto-stages, goto-fsm, extension, nonconsec-fsm, run-stages}
 use Rattle.meaning.specs.Pipeline.{guard-and, delays, latch, hop-over, apply-term, seed, later, laters, synth-seq-pipeline}
-use Rattle.meaning.specs.Root.{Signals, signals, lone-or-pipeline, match-sigs, or-reduced, any-of, choice, window-len, slide, fitting-pair, pairs, all-pairs, or-all, one-of, synth-seq-match}
+use Rattle.meaning.specs.Root.{Signals, signals, lone-or-pipeline, match-sigs, or-reduced, any-of, choice, window-len, slide, fitting-pair, pairs, all-pairs, or-all, one-of, synth-rooted, synth-seq-match}
 use Rattle.meaning.specs.declared.SeqTerm.{SeqTerm}
 use Rattle.meaning.specs.declared.SeqTerm.the-variants.{Bool as BoolTerm, Goto, Nonconsec, ConsecAtLeast, Empty}
 use Rattle.meaning.specs.declared.SeqHop.{SeqHop}
 use Rattle.meaning.specs.declared.SeqHop.the-variants.{Fixed, AtLeast}
 use Rattle.meaning.specs.declared.SeqStep.{SeqStep}
+use Rattle.meaning.proofs.Roots.{by-root}
 use Rattle.meaning.proofs.Uses.{Each, each-append, Uses, StoreUses, SynthUses}
 
 -- The atom of a term is below 65,536.
@@ -29,7 +30,7 @@ TermSmall (Nonconsec b k) = b < 65536
 TermSmall (ConsecAtLeast b k) = b < 65536
 TermSmall Empty = Unit {0}
 
--- .. and so of a step, by its term.
+-- The atom of a step's term is below 65,536.
 abbrev pub StepSmall : SeqStep → Type 0
 StepSmall s = TermSmall (s .term)
 
@@ -38,7 +39,7 @@ module _ (R : ℕ) where
   abbrev pub Small : Expr → Type 0
   Small e = Uses R 65536 e
 
-  -- .. in a guard, and in an alternative.
+  -- A guard, and an alternative, with registers below R and atoms below 65,536.
   abbrev pub GuardSmall : Guard → Type 0
   GuardSmall unguarded = Unit {0}
   GuardSmall (guard x) = Small x
@@ -50,7 +51,7 @@ module _ (R : ℕ) where
   abbrev Bounded : ℕ → Synth → Type 0
   Bounded n o = n + length (o .stores) ≤ R → SynthUses R 65536 o
 
-  -- .. and so do several alternatives.
+  -- With all their registers, from n on, below R, several alternatives use no others.
   abbrev SignalsBounded : ℕ → Signals → Type 0
   SignalsBounded n p = n + length (p .stores) ≤ R → Each (StoreUses R 65536) (p .stores) × Each Small (p .curs)
 
@@ -343,20 +344,13 @@ module _ (R : ℕ) where
   one-of-small [] q = tt
   one-of-small (e ∷ es) q = or-all-small es e (q .0) (q .1)
 
-  -- A root that is no within.
-  expanded-bounded : (s : Seq) → Ranged s → (n : ℕ) → Bounded n (choice (expand s) n)
-  expanded-bounded s u n = choice-bounded (expand s) (expand-small s u) n
-
   -- A lowered tree uses registers that it makes itself, and atoms below 65,536.
   pub a-lowered-tree-is-bounded : (s : Seq) → Ranged s → (n : ℕ) → n + length (synth-seq-match s n .stores) ≤ R
       → SynthUses R 65536 (synth-seq-match s n)
   unfolding Ranged
-  a-lowered-tree-is-bounded (within k x y) u n l =
+  a-lowered-tree-is-bounded =
+      by-root (λ s v. Ranged s → (n : ℕ) → n + length (synth-rooted v n .stores) ≤ R → SynthUses R 65536 (synth-rooted v n))
+      (λ k x y u n l.
       let (stores, curs) = all-pairs-bounded (expand x) (expand y) (expand-small x (u .0)) (expand-small y (u .1)) n l in
-      (stores, one-of-small (all-pairs (expand x) (expand y) n .curs) curs)
-  a-lowered-tree-is-bounded (atom k a) u n l = expanded-bounded (atom k a) u n l
-  a-lowered-tree-is-bounded (delay k x y m max) u n l = expanded-bounded (delay k x y m max) u n l
-  a-lowered-tree-is-bounded (consec k x m max) u n l = expanded-bounded (consec k x m max) u n l
-  a-lowered-tree-is-bounded (goto k x c) u n l = expanded-bounded (goto k x c) u n l
-  a-lowered-tree-is-bounded (nonconsec k x c) u n l = expanded-bounded (nonconsec k x c) u n l
-  a-lowered-tree-is-bounded (throughout k c x) u n l = expanded-bounded (throughout k c x) u n l
+      (stores, one-of-small (all-pairs (expand x) (expand y) n .curs) curs))
+      (λ s u n l. choice-bounded (expand s) (expand-small s u) n l)

@@ -58,7 +58,7 @@ module _ (t : List ℕ) (work out r w d : ℕ) (accepted : lower t work out 0 �
   unfolding words-of
   an-accepted-listing-passes-the-check = a-lowered-listing-passes-the-check o few bounded
 
-  -- Its registers, words and deepest stack are counted in its words.
+  -- The registers, words and deepest stack of an accepted listing are counted in its words.
   pub the-registers-are-counted : r ≡ registers (words-of t 0)
   unfolding words-of
   the-registers-are-counted =

@@ -39,21 +39,21 @@ proper-copies base c (o, B) =
 abbrev pub EveryFits : List SeqAlt → Type 0
 EveryFits alts = Every (λ y. AllEmptiesFit (y .steps)) alts
 
--- It holds of both parts of a joined alternative,
+-- Where the Empties of a joined alternative fit, those of both its parts do.
 parts-fit : (h : SeqHop) (l r : List SeqStep) → HasStep l → HasStep r → AllEmptiesFit (l ++ rehop h r)
     → AllEmptiesFit l × AllEmptiesFit r
 parts-fit h [] r p q F = absurd p
 parts-fit h (s ∷ l) [] p q F = absurd q
 parts-fit h (s ∷ l) (x ∷ r) p q F = let (a, b, c) = empties-fit-append (s .term) l (x .term) h r F in (a, c)
 
--- .. of both lists of a joined list,
+-- Where the Empties of a joined list fit, those of both its lists do.
 lists-fit : (h : SeqHop) (ls rs : List SeqAlt) → Proper ls → Proper rs → EveryFits (join-lefts h ls rs) → EveryFits ls × EveryFits rs
 lists-fit h ls rs ((l₀, p₀), L) ((r₀, q₀), R) F = (λ l p. pair l r₀ p q₀ .0, λ r q. pair l₀ r p₀ q .1)
   where
     pair : (l r : SeqAlt) → In l ls → In r rs → AllEmptiesFit (l .steps) × AllEmptiesFit (r .steps)
     pair l r p q = parts-fit h (l .steps) (r .steps) (L l p) (R r q) (F (joined h l r) (joined-in h ls rs l r p q))
 
--- .. and of what is copied.
+-- Where the Empties of copies fit, those of what is copied do.
 base-fits : (base : List SeqAlt) (c : ℕ) → Proper base → EveryFits (copies base c) → EveryFits base
 base-fits base zero B F = F
 base-fits base (suc c) B F = lists-fit (Fixed 1) (copies base c) base (proper-copies base c B) B F .1

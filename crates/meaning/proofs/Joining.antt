@@ -84,7 +84,7 @@ join-is-associative (suc d) zero A B X p q (inr c) i j = absurd (omega arith)
 join-is-associative (suc d) (suc e) A B X p q c i j =
     (λ (m, (k, a, b), x). (k, a, (m, b, x)), λ (k, a, (m, b, x)). (m, (k, a, b), x))
 
--- The same of joins over hops.
+-- Joins over hops are associative.
 pub join-over-is-associative : (h g : SeqHop) (A B X : Runs) → Forward A → Forward X
     → NoEmptyRun B ⊎ (FixedFrom1 h × FixedFrom1 g) → (i j : ℕ)
     → JoinOver g (JoinOver h A B) X i j ↔ JoinOver h A (JoinOver g B X) i j

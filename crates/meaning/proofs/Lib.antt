@@ -22,6 +22,7 @@ pub mod Windows
 pub mod WithinRuns
 pub mod MatchRuns
 pub mod Nodes
+pub mod Roots
 pub mod Formed
 pub mod Ranges
 pub mod AnUnvisitedOperand

@@ -48,7 +48,7 @@ module _ (r w d : ℕ) where
   refused-is-not-listed : {number place : ℕ} → Refused number place ≡ Listing r w d → ⊥
   refused-is-not-listed e = let z : _≡_ {A = ℕ} 0 1 = cc in omega arith
 
-  -- What each stage let pass, from the last to the first: 13 and 14 ..
+  -- A listing was let pass by 13 and 14.
   fits-listed : (t : List ℕ) (first out : ℕ) → fits (length (synth-of t first .stores)) (words-of t first) first out ≡ Listing r w d
       → Fitting (synth-of t first) first out r w d
   unfolding fits words-of
@@ -57,33 +57,33 @@ module _ (r w d : ℕ) where
       let (short, same) = second-taken (ltb out (length (words-of t first))) refused-is-not-listed more in
       record { few = ltb-false _ _ many; long-enough = ltb-false _ _ short; registers-are = cc; words-are = cc; deepest-is = cc }
 
-  -- .. then 12 ..
+  -- A listing was let pass by 12.
   placed-listed : (found : Found) (t : List ℕ) (first out : ℕ) → after-walk found t first out ≡ Listing r w d
       → (found ≡ nowhere) × (fits (length (synth-of t first .stores)) (words-of t first) first out ≡ Listing r w d)
   unfolding after-walk
   placed-listed (at i) t first out e = absurd (refused-is-not-listed e)
   placed-listed nowhere t first out e = (refl, e)
 
-  -- .. then 4 to 11 ..
+  -- A listing was let pass by 4 to 11.
   walked-listed : (walked : Walked) (t : List ℕ) (first out : ℕ) → after-table walked t first out ≡ Listing r w d
       → ((c : Counts) × (walked ≡ Counted c)) × (after-walk (misplaced (root t)) t first out ≡ Listing r w d)
   unfolding after-table
   walked-listed (Stopped number place) t first out e = absurd (refused-is-not-listed e)
   walked-listed (Counted c) t first out e = ((c, refl), e)
 
-  -- .. then 1 to 3.
+  -- A listing was let pass by 1 to 3.
   formed-listed : (checked : Table) (t : List ℕ) (work out first : ℕ) → after-nothing checked t work out first ≡ Listing r w d
       → (checked ≡ Formed) × (after-table (walk-root (room-of work) (root t)) t first out ≡ Listing r w d)
   unfolding after-nothing
   formed-listed (Misformed number place) t work out first e = absurd (refused-is-not-listed e)
   formed-listed Formed t work out first e = (refl, e)
 
--- 1 to 3 fell on no table whose answer is a listing ..
+-- 1 to 3 fell on no table whose answer is a listing.
 pub a-listed-table-is-formed : (t : List ℕ) (work out first r w d : ℕ) → lower t work out first ≡ Listing r w d → table t ≡ Formed
 unfolding lower
 a-listed-table-is-formed t work out first r w d e = formed-listed r w d (table t) t work out first e .0
 
--- .. and no refusal of 1 to 14.
+-- No refusal of 1 to 14 fell on a table whose answer is a listing.
 pub a-listed-table-passed-all : (t : List ℕ) (work out first r w d : ℕ) → lower t work out first ≡ Listing r w d → PassedAll t work out first r w d
 unfolding lower
 a-listed-table-passed-all t work out first r w d e =

@@ -14,17 +14,17 @@ use Rattle.meaning.proofs.MatchForward.{until-first-forward, nothing-ov
 
 -- Decisions put together.
 
--- Of what says the same.
+-- What says the same as something decided is decided.
 abbrev decided-as : {A B : Type 0} → (A → B) → (B → A) → Dec A → Dec B
 decided-as f g (yes a) = yes (f a)
 decided-as f g (no h) = no (λ b. h (g b))
 
--- Of two statements; the second is asked for only where the first holds.
+-- Two statements are decided together; the second is asked for only where the first holds.
 abbrev both : {A B : Type 0} → Dec A → (A → Dec B) → Dec (A × B)
 both (yes a) f = elim (f a) [ yes b ↦ yes (a, b) | no h ↦ no (λ p. h (p .1)) ]
 both (no h) f = no (λ p. h (p .0))
 
--- Of the numbers below a bound.
+-- Whether one of the numbers below a bound has a decided property is decided.
 abbrev one-below : (P : ℕ → Type 0) → ((k : ℕ) → Dec (P k)) → (n : ℕ) → Dec ((k : ℕ) × (k < n) × P k)
 one-below P d zero = no (λ (k, l, p). omega arith)
 one-below P d (suc n) =
@@ -47,7 +47,7 @@ each-below P d (suc n) =
       | no h ↦ no (λ f. h (f n (omega arith)))
     ]
 
--- Of some number, where none from n on will do, with two, three or four statements about it; and of two numbers.
+-- Whether some number has two, three or four decided properties is decided, where none from n on has them; so it is of two numbers.
 abbrev some-with-2 : {A B : ℕ → Type 0} (n : ℕ) → ((k : ℕ) → A k → B k → k < n)
     → ((k : ℕ) → Dec (A k)) → ((k : ℕ) → Dec (B k)) → Dec ((k : ℕ) × A k × B k)
 some-with-2 {A} {B} n below a b =
@@ -74,7 +74,7 @@ two-with-4 {A} {B} {C} {D} n below a b c d =
     (one-below (λ k. (l : ℕ) × A k l × B k l × C k l × D k l)
     (λ k. some-with-4 {A = A k} {B = B k} {C = C k} {D = D k} n (λ l p q r s. below k l p q r s .1) (a k) (b k) (c k) (d k)) n)
 
--- Of all numbers of which two statements hold, where they hold of none from n on.
+-- Whether all numbers of which two statements hold have a decided property is decided, where they hold of none from n on.
 abbrev if-both : {A B P : Type 0} → Dec A → Dec B → Dec P → Dec (A → B → P)
 if-both (yes x) (yes y) (yes z) = yes (λ _ _. z)
 if-both (yes x) (yes y) (no h) = no (λ f. h (f x y))
@@ -131,7 +131,7 @@ up-to-less : (c d : ℕ) (x : Max) → c ≤ d → UpTo d x → UpTo c x
 up-to-less c d (finite n) l u = omega arith
 up-to-less c d unbounded l u = tt
 
--- So a count of at most the least one and a run for each tick will do.
+-- A count of at most the least one and a run for each tick will do.
 pub few-will-do : (R : Runs) → Forward R → (m : ℕ) (x : Max) (i j c : ℕ) → m ≤ c → UpTo c x → Times c R i j
     → (c′ : ℕ) × ((m ≤ c′) × (c′ ≤ m + j)) × UpTo c′ x × Times c′ R i j
 few-will-do R f m x i j zero l u xs = (zero, (l, omega arith), u, xs)
@@ -153,7 +153,7 @@ holds false = no (λ h. h)
 
 -- Trees, in a trace.
 module _ (trace : ℕ → ℕ → Bool) where
-  -- What stands at one tick, at each tick, or at none, ..
+  -- What stands at one tick, at each tick, or at none, is decided.
   abbrev occurs : (a : ℕ) → Decided (Occurs trace a)
   occurs a i j = both (ℕ-discrete j (suc i)) (λ e. holds (trace i a))
 
@@ -163,7 +163,7 @@ module _ (trace : ℕ → ℕ → Bool) where
   abbrev never : (b : ℕ) → Decided (Never trace b)
   never b i j = each-with-2 (suc j) (λ k p q. omega arith) (λ k. decLe _ _) (λ k. decLe _ _) (λ k. holds (not (trace k b)))
 
-  -- .. goto and nonconsecutive repetition, ..
+  -- Goto and nonconsecutive repetition are decided.
   abbrev until-first : (b : ℕ) → Decided (UntilFirst trace b)
   until-first b i j =
       some-with-4 (suc j) (λ k p e n h. omega arith) (λ k. decLe _ _) (λ k. ℕ-discrete _ _) (λ k. never b _ _) (λ k. holds (trace k b))
@@ -178,7 +178,7 @@ module _ (trace : ℕ → ℕ → Bool) where
   over (boolean b) R r i j = r b i j
   over other R r i j = no (nothing-over-another trace R i j)
 
-  -- .. and every tree.
+  -- The matches of every tree are decided.
   abbrev pub match-decided : (s : Seq) → Decided (Match trace s)
   match-decided (atom n a) i j = occurs a i j
   match-decided (delay n l r m x) i j =

@@ -12,7 +12,7 @@ module _ (σ : ℕ → ℕ → Bool) where
   pub nothing-over-another : (R : ℕ → Runs) (i j : ℕ) → Over σ other R i j → ⊥
   nothing-over-another R i j x = x
 
-  -- Goto and nonconsecutive repetition, from the runs up to a first b ..
+  -- Goto and nonconsecutive repetition go forward, as the runs up to a first b do.
   pub until-first-forward : (b : ℕ) → Forward (UntilFirst σ b)
   until-first-forward b i j (k, p, e, no-b, h) = omega arith
 
@@ -22,12 +22,12 @@ module _ (σ : ℕ → ℕ → Bool) where
   nonconsec-forward : (b n : ℕ) → Forward (NonconsecRuns σ b n)
   nonconsec-forward b n i j (k, x, p, no-b) = omega (arith, goto-forward b n i k x)
 
-  -- .. over an operand that has to be a Boolean, ..
+  -- Runs over an operand that has to be a Boolean go forward where they do over each Boolean.
   over-forward : (o : Operand) (R : ℕ → Runs) → ((b : ℕ) → Forward (R b)) → Forward (Over σ o R)
   over-forward (boolean b) R f i j x = f b i j x
   over-forward other R f i j x = absurd (nothing-over-another R i j x)
 
-  -- .. and every tree.
+  -- The matches of every tree go forward.
   pub match-forward : (s : Seq) → Forward (Match σ s)
   match-forward (atom n a) i j (e, h) = omega arith
   match-forward (delay n l r m x) i j (d, p, q, y) = join-forward d (Match σ l) (Match σ r) (match-forward l) (match-forward r) i j y

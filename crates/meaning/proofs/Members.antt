@@ -95,7 +95,7 @@ in-join-lefts h ls rs y = (
 pub joined-in : (h : SeqHop) (ls rs : List SeqAlt) (l r : SeqAlt) → In l ls → In r rs → In (joined h l r) (join-lefts h ls rs)
 joined-in h ls rs l r p q = in-join-lefts h ls rs (joined h l r) .1 (l, r, p, q, refl)
 
--- .. over each hop.
+-- The members of lists joined over each of several hops.
 pub in-join-hops : (hs : List SeqHop) (ls rs : List SeqAlt) (y : SeqAlt)
     → In y (join-hops hs ls rs) ↔ ((h : SeqHop) × In h hs × In y (join-lefts h ls rs))
 in-join-hops hs ls rs y = in-all (λ h. join-lefts h ls rs) (λ hs. join-hops hs ls rs) refl (λ h hs. refl) hs y

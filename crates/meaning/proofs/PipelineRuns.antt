@@ -50,7 +50,7 @@ module _ (σ Reg : ℕ → ℕ → Bool) where
   abbrev pub EndsUnder : Guard → Runs → ℕ → Type 0
   EndsUnder g R t = (i : ℕ) × R i (suc t) × GuardOver g i t
 
-  -- The expression is on exactly where such a run ends.
+  -- The expression is on exactly where a run ends at each tick of which the guard holds.
   abbrev pub MarksEnds : Guard → Expr → Runs → Type 0
   MarksEnds g e R = (t : ℕ) → On σ Reg e t ↔ EndsUnder g R t
 

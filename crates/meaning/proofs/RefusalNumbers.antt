@@ -1,4 +1,4 @@
--- Which numbers refusals of lowering have: 1 to 14, as 01's table lists them. So a number of 0 tells of a listing.
+-- Which numbers refusals of lowering have: 1 to 14, as the specification's table lists them. So a number of 0 tells of a listing.
 use mathlib.Core.Bool.{Bool}
 use mathlib.Core.List.{List}
 use Prim.Native.Nat.{ℕ, zero, suc, _+_, _*_, _%_, _≤_}
@@ -6,9 +6,9 @@ use native.Mathlib.Omega.{arith}
 use lib.Dec.{eqb, ltb}
 use lib.ListN.{length}
 use Rattle.words.specs.Choice.{pick-case}
-use Rattle.meaning.specs.Tree.{finite, unbounded, Seq, atom, delay, consec, goto, nonconsec, throughout, within, Operand, operand, node-at, nodes, below, root}
+use Rattle.meaning.specs.Tree.{finite, unbounded, Seq, atom, delay, consec, goto, nonconsec, throughout, within, Rooted, a-within, another, rooted, Operand, operand, node-at, nodes, below, root}
 use Rattle.meaning.specs.Alternative.{SeqAlt, expand}
-use Rattle.meaning.specs.Refusals.{lowest-failing, formed-node, used-once, range-node, table, entries, plain, limited, and-then, deep-enough, is-boolean, over-boolean, walk-in, walk, limited-within, walk-root, room-of, Found, at, nowhere, misplaced}
+use Rattle.meaning.specs.Refusals.{lowest-failing, formed-node, used-once, range-node, table, entries, plain, limited, and-then, deep-enough, is-boolean, over-boolean, walk-in, walk, limited-within, walk-rooted, walk-root, room-of, Found, at, nowhere, misplaced}
 use Rattle.meaning.specs.Lower.{words-of, synth-of, fits, after-walk, after-table, after-nothing, lower}
 use Rattle.meaning.specs.declared.Table.{Table}
 use Rattle.meaning.specs.declared.Table.the-variants.{Formed, Refused as Misformed}
@@ -33,7 +33,7 @@ abbrev pub Numbered : Lowered → Type 0
 Numbered (Listing registers words deepest) = Unit {0}
 Numbered (Refused number place) = RefusalNumber number
 
--- 1, 2 and 3 ..
+-- The refusals 1, 2 and 3 have their numbers.
 lowest-failing-numbered : (refusal : ℕ) → RefusalNumber refusal → (test : ℕ → Bool) (count n : ℕ) (then : Table) → TableNumbered then
     → TableNumbered (lowest-failing refusal test count n then)
 unfolding lowest-failing
@@ -52,7 +52,7 @@ table-numbered t =
     (λ _. pick-case TableNumbered (eqb (length t) 0) (λ _. one) (λ _. pick-case TableNumbered (ltb 20480 (length t)) (λ _. one) (λ _. formed)))
     (λ _. one)
 
--- .. 4 to 11 ..
+-- The refusals 4 to 11 have their numbers.
 limited-numbered : (room n : ℕ) (alts : List SeqAlt) → WalkNumbered (limited room n alts)
 unfolding limited
 limited-numbered room n alts =
@@ -106,18 +106,16 @@ limited-within-numbered room n xs ys =
     (λ _. pick-case WalkNumbered (ltb room (entries xs + entries ys)) (λ _. omega arith) (λ _. tt)))
     (λ _. omega arith)
 
+walk-rooted-numbered : (room : ℕ) (v : Rooted) → WalkNumbered (walk-rooted room v)
+walk-rooted-numbered room (a-within n s₁ s₂) =
+    and-then-numbered _ _ (walk-numbered room 1 s₁) (and-then-numbered _ _ (walk-numbered room 1 s₂) (limited-within-numbered room n (expand s₁) (expand s₂)))
+walk-rooted-numbered room (another s) = walk-numbered room 1 s
+
 walk-root-numbered : (room : ℕ) (s : Seq) → WalkNumbered (walk-root room s)
 unfolding walk-root
-walk-root-numbered room (within n s₁ s₂) =
-    and-then-numbered _ _ (walk-numbered room 1 s₁) (and-then-numbered _ _ (walk-numbered room 1 s₂) (limited-within-numbered room n (expand s₁) (expand s₂)))
-walk-root-numbered room (atom n a) = walk-numbered room 1 (atom n a)
-walk-root-numbered room (delay n l r m x) = walk-numbered room 1 (delay n l r m x)
-walk-root-numbered room (consec n s m x) = walk-numbered room 1 (consec n s m x)
-walk-root-numbered room (goto n s k) = walk-numbered room 1 (goto n s k)
-walk-root-numbered room (nonconsec n s k) = walk-numbered room 1 (nonconsec n s k)
-walk-root-numbered room (throughout n c s) = walk-numbered room 1 (throughout n c s)
+walk-root-numbered room s = walk-rooted-numbered room (rooted s)
 
--- .. and 12, 13 and 14.
+-- The refusals 12, 13 and 14 have their numbers.
 fits-numbered : (count : ℕ) (ws : List ℕ) (first out : ℕ) → Numbered (fits count ws first out)
 unfolding fits
 fits-numbered count ws first out =

@@ -9,7 +9,7 @@ use mathlib.Core.List.{List, [], _∷_}
 use Prim.Native.Nat.{ℕ, zero, suc, _+_, _≤_}
 use native.Mathlib.Omega.{arith}
 use lib.ListN.{length}
-use Rattle.meaning.specs.Tree.{Seq, atom, delay, consec, goto, nonconsec, throughout, within}
+use Rattle.meaning.specs.Tree.{Seq, throughout}
 use Rattle.meaning.specs.Match.{Match}
 use Rattle.meaning.specs.Expression.{Expr, a·, any}
 use Rattle.meaning.specs.Alternative.{Guard, unguarded, guard, and-opt, SeqAlt, step, guard-each, expand}
@@ -21,6 +21,7 @@ use Rattle.meaning.specs.declared.SeqHop.the-variants.{Fixed}
 use Rattle.meaning.specs.declared.SeqStep.{SeqStep}
 use Rattle.meaning.proofs.Values.{Drives}
 use Rattle.meaning.proofs.Acceptable.{In, NotEmpty, Rule7, Rule12, Rules7And12, Regular, RegularChain}
+use Rattle.meaning.proofs.Roots.{by-throughouts}
 use Rattle.meaning.proofs.On.{On, drives-first, drives-rest}
 use Rattle.meaning.proofs.HopRuns.{GuardOn}
 use Rattle.meaning.proofs.AlternativeRuns.{rule-12-fits, TermRuns, AlternativeRuns, alternative-no-empty}
@@ -70,7 +71,7 @@ module _ (σ Reg : ℕ → ℕ → Bool) where
   abbrev GuardedRun : List SeqAlt → ℕ → ℕ → Type 0
   GuardedRun alts i t = (y : SeqAlt) × In y alts × AlternativeRuns σ (y .steps) i (suc t) × GuardOver σ Reg (y .guard) i t
 
-  -- One of the signals is on where such a run ends.
+  -- One of the signals is on where a run of one of the alternatives ends under its guard.
   the-signals-mark-the-runs : (alts : List SeqAlt) → Rules7And12 alts → (n : ℕ)
       → Drives σ Reg n (match-sigs alts n .stores) → (t : ℕ)
       → AnyOn σ Reg (match-sigs alts n .curs) t ↔ ((i : ℕ) × GuardedRun alts i t)
@@ -95,9 +96,12 @@ module _ (σ Reg : ℕ → ℕ → Bool) where
       inward first others (i, (z, inl e, x, G)) = inl (first .1 (subst Ends e (i, x, G)))
       inward first others (i, (z, inr q, x, G)) = inr (others .1 (i, (z, q, x, G)))
 
+  -- The alternatives of a tree that 7 and 12 let pass run, under their guards, where the tree matches.
+  abbrev Keeps : Seq → Type 0
+  Keeps s = Rules7And12 (expand s) → (i t : ℕ) → Match σ s i (suc t) ↔ GuardedRun (expand s) i t
+
   -- Without throughout no guard is to hold.
-  regular-keeps-the-matches : (s : Seq) → Regular s → Rules7And12 (expand s) → (i t : ℕ)
-      → Match σ s i (suc t) ↔ GuardedRun (expand s) i t
+  regular-keeps-the-matches : (s : Seq) → Regular s → Keeps s
   regular-keeps-the-matches s k K i t =
       let same = expansion-keeps-the-matches σ s k (λ y m. rule-12-fits (y .steps) (K y m .1)) i (suc t) in (
         λ h. let (y, m, x) = same .0 h in
@@ -105,17 +109,10 @@ module _ (σ Reg : ℕ → ℕ → Bool) where
         λ (y, m, x, G). same .1 (y, m, x),
       )
 
-  -- Each throughout on top adds its condition to the guards.
-  a-chain-keeps-the-matches : (s : Seq) → RegularChain s → Rules7And12 (expand s) → (i t : ℕ)
-      → Match σ s i (suc t) ↔ GuardedRun (expand s) i t
-  a-chain-keeps-the-matches (atom n a) k K i t = regular-keeps-the-matches (atom n a) k K i t
-  a-chain-keeps-the-matches (delay n l r m x) k K i t = regular-keeps-the-matches (delay n l r m x) k K i t
-  a-chain-keeps-the-matches (consec n s m x) k K i t = regular-keeps-the-matches (consec n s m x) k K i t
-  a-chain-keeps-the-matches (goto n s c) k K i t = regular-keeps-the-matches (goto n s c) k K i t
-  a-chain-keeps-the-matches (nonconsec n s c) k K i t = regular-keeps-the-matches (nonconsec n s c) k K i t
-  a-chain-keeps-the-matches (within n s₁ s₂) k K i t = absurd k
-  a-chain-keeps-the-matches (throughout n c s) k K i t =
-      let below = a-chain-keeps-the-matches s k (rules-with-less c (expand s) K) i t in (
+  -- A throughout adds its condition to the guards.
+  a-throughout-keeps-the-matches : (n c : ℕ) (s : Seq) → Keeps s → Keeps (throughout n c s)
+  a-throughout-keeps-the-matches n c s under K i t =
+      let below = under (rules-with-less c (expand s) K) i t in (
         λ (h, A). let (y, m, x, G) = below .0 h in (
           guarded-by c y,
           in-guard-each c (expand s) (guarded-by c y) .1 (y, m, refl),
@@ -133,6 +130,10 @@ module _ (σ Reg : ℕ → ℕ → Bool) where
       condition : (y : SeqAlt) (u : ℕ)
           → GuardOn σ Reg (guarded-by c y .guard) u ↔ (GuardOn σ Reg (y .guard) u × On σ Reg (any (a· c)) u)
       condition y u = and-opt-is-both (y .guard) (any (a· c)) u
+
+  a-chain-keeps-the-matches : (s : Seq) → RegularChain s → Keeps s
+  a-chain-keeps-the-matches =
+      by-throughouts (λ s x. Regular x → Keeps s) (λ n c s x under k. a-throughout-keeps-the-matches n c s (under k)) regular-keeps-the-matches
 
   -- The choice at the root is on exactly where a match ends; a match that ends has a tick.
   pub the-choice-ends-the-matches : (s : Seq) → RegularChain s → Rules7And12 (expand s) → (n : ℕ)

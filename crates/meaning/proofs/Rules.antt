@@ -47,18 +47,18 @@ every-plain [] e y m = absurd m
 every-plain (x ∷ alts) e y (inl same) = rw same (plain-alternative (x .steps) (both-hold (plain-steps (x .steps)) e .0))
 every-plain (x ∷ alts) e y (inr m) = every-plain alts (both-hold (plain-steps (x .steps)) e .1) y m
 
--- 7: the guard stands over nothing else ..
+-- 7: a guard over plain steps stands over nothing else.
 under-a-guard : (g : Guard) (ss : List SeqStep) → Plain ss → Rule7 g ss
 under-a-guard unguarded ss p = tt
 under-a-guard (guard x) ss p = p
 
--- .. at a throughout, because the walk looked at what is under it ..
+-- 7 holds at a throughout, because the walk looked at what is under it.
 pub rule-7-of-throughout : (c : ℕ) (s : Seq) → plain (expand s) ≡ true → (n : ℕ) → Every (λ y. Rule7 (y .guard) (y .steps)) (expand (throughout n c s))
 rule-7-of-throughout c s e n y m =
     let (x, p, same) = in-guard-each c (expand s) y .0 m in
     rw same (under-a-guard (guarded-by c x .guard) (x .steps) (every-plain (expand s) e x p))
 
--- .. elsewhere, because there is no guard.
+-- 7 holds without a throughout, because there is no guard.
 pub rule-7-without-throughout : (s : Seq) → Regular s → Every (λ y. Rule7 (y .guard) (y .steps)) (expand s)
 rule-7-without-throughout s R y m = rw (no-guards s R y m) tt
 

@@ -1,4 +1,4 @@
--- 01, Tick: "An atom that the listing never names changes nothing." Where two slices of atoms are alike in all that the listing names,
+-- SPECIFICATION, "Tick": "An atom that the listing never names has no influence." Where two slices of atoms are alike in all that the listing names,
 -- a tick answers the same and leaves the same. Nothing is asked of the listing: it need not be as described.
 use mathlib.Core.Bool.{Bool, true, false}
 use mathlib.Core.Path.{_≡_, refl, sym, ap, subst}
@@ -20,13 +20,13 @@ use Rattle.meaning.specs.declared.Checked.the-variants.{Described, Fault
 use Rattle.meaning.specs.declared.Ticked.{Ticked}
 use Rattle.meaning.specs.declared.Ticked.the-variants.{Match, Refused}
 
--- Two ways for slices to be so alike: the byte of an atom that is not named is set to any other ..
+-- Slices are alike where named when the byte of an atom that is not named is set to any other.
 pub an-unnamed-byte-may-be-any : (ws atoms : List ℕ) (a byte : ℕ) → (Names ws a → ⊥) → AlikeWhereNamed ws atoms (set atoms a byte)
 an-unnamed-byte-may-be-any ws atoms a byte unnamed b m =
     let e = length-set atoms a byte in
     ((λ l. omega arith, λ l. omega arith), sym (getD-set-other atoms a b byte 0 (λ is. unnamed (subst (Names ws) is m))))
 
--- .. or more atoms stand behind those that are named.
+-- Slices are alike where named when more atoms stand behind those that are named.
 pub more-atoms-may-follow : (ws atoms more : List ℕ) → ((a : ℕ) → Names ws a → a < length atoms) → AlikeWhereNamed ws atoms (atoms ++ more)
 more-atoms-may-follow ws atoms more reached a m =
     let e = length-append atoms more in
@@ -47,7 +47,7 @@ reaching-the-named (w ∷ ws) n reached =
     pick-case (λ (here : ℕ). max here (atoms-named ws) ≤ n) (eqb (operation w) 1)
     (λ e. omega (arith, reached (argument w) (inl (eqb-true _ _ e, refl)))) (λ _. omega arith)
 
--- The same test, of two numbers that reach as far.
+-- Two numbers that reach as far as n fall short of it alike.
 as-short : (x y n : ℕ) → (n ≤ x → n ≤ y) → (n ≤ y → n ≤ x) → ltb x n ≡ ltb y n
 as-short x y n there back = go (ltb x n) (ltb y n) refl refl
   where
@@ -59,27 +59,27 @@ as-short x y n there back = go (ltb x n) (ltb y n) refl refl
 
 -- Two slices of atoms.
 module _ (cur atoms atoms′ : List ℕ) where
-  -- Where they are alike, the same is put on the stack ..
+  -- Where the atoms are alike, the same is put on the stack.
   stacks-alike : (w : ℕ) (ws st : List ℕ) → AlikeWhereNamed (w ∷ ws) atoms atoms′ → stack-after cur atoms w st ≡ stack-after cur atoms′ w st
   unfolding stack-after
   stacks-alike w ws st alike =
       pick-cong (eqb (operation w) 1) (λ e. ap (λ (x : ℕ). x ∷ st) (alike (argument w) (inl (eqb-true _ _ e, refl)) .1)) (λ _. refl)
 
-  -- .. so the stores take the same ..
+  -- Where the atoms are alike, the stores take the same.
   stores-alike : (ws st : List ℕ) → AlikeWhereNamed ws atoms atoms′ → stored cur atoms ws st ≡ stored cur atoms′ ws st
   unfolding stored
   stores-alike [] st alike = refl
   stores-alike (w ∷ ws) st alike =
       rw (stacks-alike w ws st alike, stores-alike ws (stack-after cur atoms′ w st) (λ a m. alike a (inr m))) refl
 
-  -- .. and the match.
+  -- Where the atoms are alike, the match is the same.
   matches-alike : (ws st : List ℕ) → AlikeWhereNamed ws atoms atoms′ → matched cur atoms ws st ≡ matched cur atoms′ ws st
   unfolding matched
   matches-alike [] st alike = refl
   matches-alike (w ∷ ws) st alike =
       rw (stacks-alike w ws st alike, matches-alike ws (stack-after cur atoms′ w st) (λ a m. alike a (inr m))) refl
 
-  -- 22 and 23 see the same too.
+  -- 22 and 23 see the same where the atoms are alike.
   as-long : (ws : List ℕ) → AlikeWhereNamed ws atoms atoms′ → ltb (length atoms) (atoms-named ws) ≡ ltb (length atoms′) (atoms-named ws)
   as-long ws alike =
       as-short (length atoms) (length atoms′) (atoms-named ws)
@@ -97,7 +97,7 @@ module _ (cur atoms atoms′ : List ℕ) where
   unfolding bits
   bits-alike ws alike = pick-cong (all-bits (take (registers ws) cur)) (λ _. named-bits-alike ws alike) (λ _. refl)
 
-  -- The answer is the same ..
+  -- Where the atoms are alike, the answer is the same.
   pub unnamed-atoms-change-no-answer : (ws : List ℕ) → AlikeWhereNamed ws atoms atoms′ → (next stack : ℕ)
       → tick ws cur atoms next stack ≡ tick ws cur atoms′ next stack
   unfolding tick tick-if too-short
@@ -107,7 +107,7 @@ module _ (cur atoms atoms′ : List ℕ) where
       go (Faulty place) = refl
       go Described = rw (as-long ws alike, bits-alike ws alike, matches-alike ws [] alike) refl
 
-  -- .. and what it leaves in next.
+  -- Where the atoms are alike, the same is left in next.
   pub unnamed-atoms-change-no-register : (answer : Ticked) (ws : List ℕ) → AlikeWhereNamed ws atoms atoms′ → (next : List ℕ)
       → next-after answer ws cur atoms next ≡ next-after answer ws cur atoms′ next
   unfolding next-after

@@ -43,14 +43,14 @@ join-length : (d : ℕ) (R X : Runs) (w : ℕ) → HasLength R w → HasLength X
 join-length zero R X w L L₁ i j (k, l, l′, x, y) = omega (arith, L i (suc k) x, L₁ k j y)
 join-length (suc d) R X w L L₁ i j (k, x, y) = omega (arith, L i k x, L₁ (k + d) j y)
 
--- So does a fixed hop,
+-- A fixed hop adds its length to a run that a Bool ends.
 hop-adds-its-length : (h : SeqHop) → IsFixed h → (R X : Runs) (w : ℕ) → HasLength R w → HasLength X 1
     → HasLength (JoinOver h R X) (w + hop-length h)
 hop-adds-its-length (Fixed n) F R X w L L₁ i j (d, a, y) = omega (arith, join-length d R X w L L₁ i j y)
 hop-adds-its-length (AtLeast m) F R X w L L₁ i j y = absurd F
 
 module _ (σ : ℕ → ℕ → Bool) where
-  -- and so do steps in a row.
+  -- Plain steps in a row add the sum of their hops.
   followed-length : (ss : List SeqStep) → Plain ss → (R : Runs) (w : ℕ) → HasLength R w
       → HasLength (FollowedBy σ R ss) (w + hop-sum ss)
   followed-length [] P R w L i j x = omega (arith, L i j x)

@@ -155,7 +155,7 @@ module _ (σ Reg : ℕ → ℕ → Bool) where
   abbrev PairEnds : List SeqAlt → List SeqAlt → ℕ → Type 0
   PairEnds s₁ s₂ t = (y : SeqAlt) × (i : ℕ) × In y s₂ × AlternativeRuns σ (y .steps) i (suc t) × FitsIn (window-len (y .steps)) s₁ t
 
-  -- One of all pairs is on where such a pair ends.
+  -- One of all pairs is on where a run of seq2 ends that an alternative of seq1 fits into.
   one-of-all-pairs-is-on : (s₁ s₂ : List SeqAlt) → Rules9 s₁ → Rules9 s₂ → (n : ℕ)
       → Drives σ Reg n (all-pairs s₁ s₂ n .stores) → (t : ℕ)
       → AnyOn σ Reg (all-pairs s₁ s₂ n .curs) t ↔ PairEnds s₁ s₂ t
@@ -187,7 +187,7 @@ module _ (σ Reg : ℕ → ℕ → Bool) where
           inl (here .1 (marks .1 (i, subst (λ (z : SeqAlt). AlternativeRuns σ (z .steps) i (suc t)) e x, λ m p q. tt), subst Fitting e f))
       inward marks here others (z, i, inr m, x, f) = inr (others .1 (z, i, m, x, f))
 
-  -- Such pairs are the matches: a run of seq1 that fits lies inside if it ended late enough.
+  -- The pairs that end are the matches: a run of seq1 that fits lies inside if it ended late enough.
   pairs-are-the-matches : (n : ℕ) (x y : Seq) → Regular x → Regular y → Rules9 (expand x) → Rules9 (expand y) → (t : ℕ)
       → PairEnds (expand x) (expand y) t ↔ ((i : ℕ) × (i ≤ t) × Match σ (within n x y) i (suc t))
   pairs-are-the-matches n x y kx ky Kx Ky t = (outward, inward)

@@ -1,4 +1,4 @@
--- Alternatives: what a tree expands to (01, "Alternatives"; `expand_sequence_inner` of the source).
+-- Alternatives: what a tree expands to (SPECIFICATION, "Alternatives"; `expand_sequence_inner` of the source).
 -- Example: `a ##[1:2] b` has two, [a, b after 1] and [a, b after 2].
 use mathlib.Core.List.{List, [], _∷_, _++_}
 use Prim.Native.Nat.{ℕ, zero, suc, _-_}
@@ -15,13 +15,13 @@ pub data Guard : Type 0 where
   unguarded : Guard
   guard : Expr → Guard
 
--- `and_opt`. "Guards met in a delay or repetition are ANDed, left first": an AND tree, not a list.
+-- `and_opt`. "their guards are ANDed, the left one first": an AND tree, not a list.
 abbrev pub and-opt : Guard → Guard → Guard
 and-opt unguarded h = h
 and-opt (guard x) unguarded = guard x
 and-opt (guard x) (guard y) = guard (and· x y)
 
--- `SeqAlt`: "a list of terms, each with a hop from the term before, and perhaps a guard".
+-- `SeqAlt`: "a row of terms, each reached by a hop from the one before it, with or without a guard".
 pub record SeqAlt : Type 0 where
   pub steps : List SeqStep
   pub guard : Guard
@@ -36,7 +36,7 @@ alternative ss g = record { steps = ss; guard = g }
 abbrev pub single : SeqTerm → SeqAlt
 single x = alternative (step x (Fixed zero) ∷ []) unguarded
 
--- "the hop replaces that of the right's first term"
+-- "the delay's hop takes the place of that of the right's first term"
 abbrev pub rehop : SeqHop → List SeqStep → List SeqStep
 rehop h [] = []
 rehop h (s ∷ ss) = step (s .term) h ∷ ss
@@ -44,7 +44,7 @@ rehop h (s ∷ ss) = step (s .term) h ∷ ss
 abbrev pub joined : SeqHop → SeqAlt → SeqAlt → SeqAlt
 joined h l r = alternative (l .steps ++ rehop h (r .steps)) (and-opt (l .guard) (r .guard))
 
--- "hops outermost .., then left, then right"
+-- "The hop varies slowest, then the left's alternative, then the right's"
 abbrev pub join-rights : SeqHop → SeqAlt → List SeqAlt → List SeqAlt
 join-rights h l [] = []
 join-rights h l (r ∷ rs) = joined h l r ∷ join-rights h l rs
@@ -57,7 +57,7 @@ abbrev pub join-hops : List SeqHop → List SeqAlt → List SeqAlt → List SeqA
 join-hops [] ls rs = []
 join-hops (h ∷ hs) ls rs = join-lefts h ls rs ++ join-hops hs ls rs
 
--- "each fixed value from min to max; for $, one 'at least min'"
+-- "one fixed hop for every number from min to max, or, where max is $, the single hop"
 abbrev pub fixed-from : ℕ → ℕ → List SeqHop
 fixed-from d zero = []
 fixed-from d (suc count) = Fixed d ∷ fixed-from (suc d) count
@@ -66,7 +66,7 @@ abbrev pub hops : ℕ → Max → List SeqHop
 hops m (finite x) = fixed-from m (suc x - m)
 hops m unbounded = AtLeast m ∷ []
 
--- k + 1 copies: "every copy after the first begins with a fixed hop of 1; earlier copies vary slowest".
+-- k + 1 copies: "Each copy but the first is reached by a fixed hop of 1, and the earlier a copy, the slower it varies".
 abbrev pub copies : List SeqAlt → ℕ → List SeqAlt
 copies base zero = base
 copies base (suc k) = join-lefts (Fixed (suc zero)) (copies base k) base
@@ -76,12 +76,12 @@ abbrev pub copies-from : List SeqAlt → ℕ → ℕ → List SeqAlt
 copies-from base k zero = []
 copies-from base k (suc count) = copies base k ++ copies-from base (suc k) count
 
--- "Empty first if m is 0"
+-- "if m is 0, Empty comes first"
 abbrev pub with-empty : ℕ → List SeqAlt → List SeqAlt
 with-empty zero alts = single Empty ∷ alts
 with-empty (suc m) alts = alts
 
--- "Finite [*m:n]: n = 0 gives Empty .. Otherwise .. k = max(m,1) up to n copies."
+-- "[*0] (n is 0) is Empty alone .. for k from the larger of m and 1 up to n."
 abbrev pub consec-finite : List SeqAlt → ℕ → ℕ → List SeqAlt
 consec-finite base m zero = single Empty ∷ []
 consec-finite base m (suc x) = with-empty m (copies-from base (below m) (suc x - below m))
@@ -91,11 +91,11 @@ abbrev pub over : Operand → (ℕ → List SeqAlt) → List SeqAlt
 over (boolean b) f = f b
 over other f = []
 
--- "[*m:$]: an Empty alternative first if m is 0, then one run of at least max(m,1)."
+-- "if m is 0, Empty comes first; then one run of at least the larger of m and 1."
 abbrev pub consec-unbounded : ℕ → ℕ → List SeqAlt
 consec-unbounded m b = with-empty m (single (ConsecAtLeast b (suc (below m))) ∷ [])
 
--- "the guard gains the condition reduced by OR, inner guard first"
+-- "the guard of each gains the condition, reduced by OR, behind what it had from inside"
 abbrev pub guard-each : ℕ → List SeqAlt → List SeqAlt
 guard-each c [] = []
 guard-each c (y ∷ ys) = alternative (y .steps) (and-opt (y .guard) (guard (any (a· c)))) ∷ guard-each c ys

@@ -26,12 +26,12 @@ synth-of t first = synth-seq-match (root t) first
 unfoldable pub words-of : List ℕ → ℕ → List ℕ
 words-of t first = listing first (synth-of t first)
 
--- "13: more than 65,536 registers", "14: output slice too short"; else "the registers, the words, and the deepest stack".
+-- "more than 65,536 registers", "the output is shorter than the listing"; else "the registers, the words and the deepest stack".
 unfoldable pub fits : ℕ → List ℕ → ℕ → ℕ → Lowered
 fits count ws first out =
     pick (ltb 65536 (first + count)) (Refused 13 0) (pick (ltb out (length ws)) (Refused 14 0) (Listing count (length ws) (deepest ws)))
 
--- "Then 12, 13, 14": 12 has the lowest alternative.
+-- "After the walk 12, 13 and 14": 12 has the lowest alternative.
 unfoldable pub after-walk : Found → List ℕ → ℕ → ℕ → Lowered
 after-walk (at i) t first out = Refused 12 i
 after-walk nowhere t first out = fits (length (synth-of t first .stores)) (words-of t first) first out
@@ -44,11 +44,11 @@ unfoldable pub after-nothing : Table → List ℕ → ℕ → ℕ → ℕ → Lo
 after-nothing (Misformed number place) t work out first = Refused number place
 after-nothing Formed t work out first = after-table (walk-root (room-of work) (root t)) t first out
 
--- "Order: 1, 2, 3 over the whole table; then the walk from the root. .. Then 12, 13, 14."
+-- "First 1, then 2, then 3 .. Then comes the walk .. After the walk 12, 13 and 14."
 unfoldable pub lower : List ℕ → ℕ → ℕ → ℕ → Lowered
 lower t work out first = after-nothing (table t) t work out first
 
--- "The output is unchanged on every refusal; past the words written it is unchanged on success."
+-- "What was lent for output is then unchanged .. Past the words of the listing the output is unchanged on success too."
 unfoldable pub output-after : Lowered → List ℕ → ℕ → List ℕ → List ℕ
 output-after (Listing r w d) t first out = written out 0 (words-of t first)
 output-after (Refused number place) t first out = out

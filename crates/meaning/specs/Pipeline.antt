@@ -22,15 +22,15 @@ abbrev pub delays : Guard → ℕ → ℕ → Expr → Synth
 delays g zero n e = synth [] e
 delays g (suc d) n e = also (store seq e) (delays g d (suc n) (guard-and g (r· n)))
 
--- The latch of an "at least" hop: it holds from the tick after e was 1 on. "m = 1 is the latch alone."
+-- The latch of an "at least" hop: it holds from the tick after e was 1 on. "With m of 1 or more the new value is the latch alone."
 abbrev pub latch : ℕ → Expr → Synth
 latch n e = synth (store arm (or· (r· n) e) ∷ []) (r· n)
 
--- "m = 0 ORs the latch with the current value".
+-- "with m of 0 it is the latch OR the value before it".
 abbrev pub latch-or-now : ℕ → Expr → Synth
 latch-or-now n e = synth (store arm (or· (r· n) e) ∷ []) (or· (r· n) e)
 
--- The source's `match hop`: "'At least m' takes m - 1 delays (none for m = 0) and a latch", which take no guard.
+-- The source's `match hop`: "'At least m' is m - 1 delays, none for m of 0 or 1, and then a latch", which take no guard.
 abbrev pub hop-over : Guard → SeqHop → ℕ → Expr → Synth
 hop-over g (Fixed d) n e = delays g d n e
 hop-over g (AtLeast zero) n e = latch-or-now n e
@@ -52,7 +52,7 @@ seed (Nonconsec b k) n = nonconsec-fsm b k n one·
 seed (ConsecAtLeast b k) n = consec-run-fsm b k n one·
 seed Empty n = synth [] zero·
 
--- A later step: the hop, then the term. "Empty after a fixed d >= 1 takes d - 1 delays"; its other hops are refused with 12.
+-- A later step: the hop, then the term. "Empty behind a fixed hop of d, d at least 1, makes d - 1 delays"; its other hops are refused with 12.
 abbrev pub later : Guard → SeqTerm → SeqHop → ℕ → Expr → Synth
 later g (BoolTerm a) h n e = chained n (hop-over g h n e) (apply-term (BoolTerm a))
 later g (Goto b k) h n e = chained n (hop-over g h n e) (apply-term (Goto b k))
@@ -65,7 +65,7 @@ abbrev pub laters : Guard → List SeqStep → ℕ → Expr → Synth
 laters g [] n e = synth [] e
 laters g (s ∷ ss) n e = chained n (later g (s .term) (s .hop) n e) (laters g ss)
 
--- `synth_seq_pipeline`. "Guards are ANDed to the seed and after each delay register of a fixed hop."
+-- `synth_seq_pipeline`. "ANDed to the seed and to the value behind each delay register of a fixed hop."
 abbrev pub synth-seq-pipeline : Guard → List SeqStep → ℕ → Synth
 synth-seq-pipeline g [] n = synth [] zero·
 synth-seq-pipeline g (s ∷ ss) n =

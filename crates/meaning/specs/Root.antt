@@ -5,7 +5,7 @@ use Prim.Native.Nat.{ℕ, zero, suc, _+_, _-_}
 use lib.Dec.{leb}
 use lib.ListN.{length}
 use Rattle.words.specs.Choice.{pick}
-use Rattle.meaning.specs.Tree.{Seq, atom, delay, consec, goto, nonconsec, throughout, within}
+use Rattle.meaning.specs.Tree.{Seq, Rooted, a-within, another, rooted}
 use Rattle.meaning.specs.Expression.{Expr, a·, r·, zero·, any, and·, or·, seq, Store, store, Synth, synth, also, chained}
 use Rattle.meaning.specs.Alternative.{Guard, unguarded, guard, SeqAlt, step, expand}
 use Rattle.meaning.specs.Pipeline.{synth-seq-pipeline}
@@ -23,7 +23,7 @@ pub record Signals : Type 0 where
 abbrev pub signals : List Store → List Expr → Signals
 signals ss es = record { stores = ss; curs = es }
 
--- "a lone unguarded Bool is the bare atom"
+-- "a lone unguarded Bool stays the bare atom"
 abbrev pub lone-or-pipeline : Guard → List SeqStep → ℕ → Synth
 lone-or-pipeline unguarded [] n = synth-seq-pipeline unguarded [] n
 lone-or-pipeline unguarded (s ∷ []) n = lone (s .term)
@@ -45,7 +45,7 @@ match-sigs (y ∷ ys) n =
     let p = match-sigs ys (n + length (o .stores)) in
     signals (o .stores ++ p .stores) (o .cur ∷ p .curs)
 
--- "with two or more alternatives each is reduced by OR and they are joined left to right"
+-- "Of two or more, each is reduced by OR, and they are joined by OR from the left"
 abbrev pub or-reduced : Expr → List Expr → Expr
 or-reduced acc [] = acc
 or-reduced acc (e ∷ es) = or-reduced (or· acc (any e)) es
@@ -59,7 +59,7 @@ any-of (e ∷ f ∷ es) = or-reduced (any e) (f ∷ es)
 abbrev pub choice : List SeqAlt → ℕ → Synth
 choice alts n = let p = match-sigs alts n in synth (p .stores) (any-of (p .curs))
 
--- `window_len`: the ticks of an alternative of Bool terms and fixed hops. "Windows are summed exactly."
+-- `window_len`: the ticks of an alternative of Bool terms and fixed hops, "summed exactly".
 abbrev pub hop-length : SeqHop → ℕ
 hop-length (Fixed d) = d
 hop-length (AtLeast m) = zero
@@ -83,7 +83,7 @@ fitting-pair l match-2 s₁ n =
     let o = chained n (synth-seq-pipeline unguarded s₁ n) (λ n′ match-1. slide n′ (l - window-len s₁) match-1 match-1) in
     synth (o .stores) (and· match-2 (o .cur))
 
--- "then each of seq1 that fits (window k1 not above l)"
+-- "Each alternative of seq1 whose window k1 is not above l"
 abbrev pub pairs : ℕ → Expr → List SeqAlt → ℕ → Signals
 pairs l match-2 [] n = signals [] []
 pairs l match-2 (y ∷ ys) n =
@@ -92,7 +92,7 @@ pairs l match-2 (y ∷ ys) n =
     let rest = pairs l match-2 ys (n + length (o .stores)) in
     pick (leb (window-len (y .steps)) l) (signals (o .stores ++ rest .stores) (o .cur ∷ rest .curs)) skipped
 
--- "A root within: for each alternative of seq2 .."; its registers exist even where no pair fits.
+-- "goes through the alternatives of seq2."; its registers exist even where no pair fits.
 abbrev pub all-pairs : List SeqAlt → List SeqAlt → ℕ → Signals
 all-pairs s₁ [] n = signals [] []
 all-pairs s₁ (y ∷ ys) n =
@@ -101,7 +101,7 @@ all-pairs s₁ (y ∷ ys) n =
     let q = all-pairs s₁ ys (n + length (o .stores) + length (p .stores)) in
     signals (o .stores ++ (p .stores ++ q .stores)) (p .curs ++ q .curs)
 
--- The pairs are ORed as they are; "no pair left gives 0".
+-- The pairs are ORed as they are; "without a pair that fits the match is 0".
 abbrev pub or-all : Expr → List Expr → Expr
 or-all acc [] = acc
 or-all acc (e ∷ es) = or-all (or· acc e) es
@@ -115,11 +115,9 @@ abbrev pub synth-within : List SeqAlt → List SeqAlt → ℕ → Synth
 synth-within s₁ s₂ n = let p = all-pairs s₁ s₂ n in synth (p .stores) (one-of (p .curs))
 
 -- `synth_seq_match` after resolution, from register n on.
+abbrev pub synth-rooted : Rooted → ℕ → Synth
+synth-rooted (a-within k x y) n = synth-within (expand x) (expand y) n
+synth-rooted (another s) n = choice (expand s) n
+
 abbrev pub synth-seq-match : Seq → ℕ → Synth
-synth-seq-match (within k x y) n = synth-within (expand x) (expand y) n
-synth-seq-match (atom k a) n = choice (expand (atom k a)) n
-synth-seq-match (delay k l r m x) n = choice (expand (delay k l r m x)) n
-synth-seq-match (consec k s m x) n = choice (expand (consec k s m x)) n
-synth-seq-match (goto k s c) n = choice (expand (goto k s c)) n
-synth-seq-match (nonconsec k s c) n = choice (expand (nonconsec k s c)) n
-synth-seq-match (throughout k c s) n = choice (expand (throughout k c s)) n
+synth-seq-match s n = synth-rooted (rooted s) n

@@ -17,6 +17,27 @@ pub struct Node {
     pub max: u32,
 }
 
+// What p or q of a node is, by the node's kind.
+pub enum Part {
+    Unused,
+    Operand,
+    Atom,
+}
+
+// What min and max of a node are together, by the node's kind.
+pub enum Span {
+    Unused,
+    Range,
+    Count,
+}
+
+// A row of the specification's table of kinds.
+pub struct Columns {
+    pub p: Part,
+    pub q: Part,
+    pub span: Span,
+}
+
 // A term of an alternative: the atom, and the count of a repetition.
 pub enum SeqTerm {
     Bool(u32),

@@ -44,7 +44,7 @@ module _ (rows : List ℕ) (width b i : ℕ) where
 
   -- By how often b was seen before the tick:
   module _ (t seen : ℕ) (x : NonconsecRuns (recorded rows width) b seen i t) where
-    -- The next end is one where b is seen n times with the tick, and holds at it or the run may go on ..
+    -- The next end is one where b is seen n times with the tick, and holds at it or the run may go on.
     is-end : (here goes-on : Bool) (n : ℕ) → here ≡ recorded rows width t b → seen + boolByte here ≡ n → (here || goes-on) ≡ true
         → Counted goes-on rows width b n i (t + 1)
     is-end true goes-on n h e o =
@@ -53,7 +53,7 @@ module _ (rows : List ℕ) (width b i : ℕ) where
         subst (λ z. NonconsecRuns (recorded rows width) b z i (t + 1)) e (often-on (recorded rows width) b false seen i t h x)
     is-end false false n h e o = absurd (subst T (sym o) tt)
 
-    -- .. and none where b is not seen n times.
+    -- The next end is none where b is not seen n times.
     is-not-yet : (here goes-on : Bool) (n : ℕ) → here ≡ recorded rows width t b → (seen + boolByte here ≡ n → ⊥)
         → Counted goes-on rows width b n i (t + 1) → ⊥
     is-not-yet here goes-on n h d y =
@@ -108,17 +108,17 @@ module _ {goes-on : Bool} {rows : List ℕ} {width b n i : ℕ} {before after : 
     gained = gaining-on (c .gained) l (inl (is-end rows width b i t seen (c .often) here goes-on n h e (sym o ∙ ends), refl));
   }
 
-  -- Where it is none it is left ..
+  -- Where the next end is none it is left.
   left : t + 1 < length after → seen + boolByte here ≤ n → (Counted goes-on rows width b n i (t + 1) → ⊥)
       → Counting goes-on rows width b n i before after (seen + boolByte here) (t + 1)
   left l f none = record { inside = omega (arith, c .gained .long); often = often-now; few = f; gained = gaining-past (c .gained) none }
 
-  -- .. which it is where b does not hold and the run may not go on ..
+  -- The next end is left where b does not hold and the run may not go on.
   pub counting-waits : {ends : Bool} → t + 1 < length after → 0 < n → seen + boolByte here ≡ n → ends ≡ (here || goes-on) → ends ≡ false
       → Counting goes-on rows width b n i before after (seen + boolByte here) (t + 1)
   counting-waits l p e o none = left l (omega arith) (is-no-end rows width b i t here goes-on n h p (sym o ∙ none))
 
-  -- .. or where b is not seen often enough.
+  -- The next end is left where b is not seen often enough.
   pub counting-on : t + 1 < length after → seen + boolByte here ≤ n → (seen + boolByte here ≡ n → ⊥)
       → Counting goes-on rows width b n i before after (seen + boolByte here) (t + 1)
   counting-on l f d = left l f (is-not-yet rows width b i t seen (c .often) here goes-on n h d)

@@ -38,7 +38,7 @@ front-gains {row} {front} {P} k h g = record { long = length-front row front k (
 
 -- The front reaches up to the last end of the condition.
 module _ {rows : List ℕ} {width c i last : ℕ} (row : List ℕ) (s : Last rows width c i (length row) last) where
-  -- It has a byte for each end up to the last.
+  -- The front has a byte for each end up to the last.
   pub front-long : last + 1 ≡ length (take (last + 1) row)
   front-long = sym (length-take-le (last + 1) row (omega (arith, s .inside)))
 

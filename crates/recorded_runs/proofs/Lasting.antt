@@ -16,7 +16,7 @@ pub record Lasting (rows : List ℕ) (width c i side end : ℕ) : Type 0 where
   pub inside : end < side
   pub always : Always (recorded rows width) c i end
 
--- A run of no tick has none at which it does not hold.
+-- A run of no tick has none at which the atom does not hold.
 pub lasting-begins : {rows : List ℕ} {width c i side : ℕ} → i < side → Lasting rows width c i side i
 lasting-begins h = record { since = omega arith; inside = h; always = λ k l u. absurd (omega arith) }
 
@@ -24,7 +24,7 @@ lasting-begins h = record { since = omega arith; inside = h; always = λ k l u. 
 module _ {rows : List ℕ} {width c i side end : ℕ} (s : Lasting rows width c i side end) where
   -- By whether the atom holds at the next tick:
   module _ {here : Bool} (h : here ≡ recorded rows width end c) where
-    -- Where it does the end is one later.
+    -- Where the atom holds at the next tick the end is one later.
     pub lasting-on : not here ≡ false → end + 1 < side → Lasting rows width c i side (end + 1)
     lasting-on e l = record {
       since = omega (arith, s .since);
@@ -35,7 +35,7 @@ module _ {rows : List ℕ} {width c i side end : ℕ} (s : Lasting rows width c 
       ];
     }
 
-    -- Where it does not the end is the last.
+    -- Where the atom does not hold at the next tick the end is the last.
     pub lasting-stops : not here ≡ true → Last rows width c i side end
     lasting-stops e = record {
       inside = s .inside;
@@ -43,6 +43,6 @@ module _ {rows : List ℕ} {width c i side end : ℕ} (s : Lasting rows width c 
       longest = λ j l u a. subst T (sym h ∙ not-true here e) (a end (s .since) l);
     }
 
-  -- Where there is no next tick it is the last too.
+  -- Where there is no next tick the end is the last.
   pub lasting-ends : side ≤ end + 1 → Last rows width c i side end
   lasting-ends l = record { inside = s .inside; always = s .always; longest = λ j k u a. omega arith }

@@ -13,15 +13,15 @@ use Rattle.recorded_runs.specs.Recorded.{recorded}
 
 -- By whether the atom holds at the tick:
 module _ (rows : List ℕ) (width a i : ℕ) (row : List ℕ) {here : Bool} (h : here ≡ recorded rows width i a) where
-  -- Where it does the tick after is set.
+  -- Where the atom holds the tick after is set.
   pub occurs-here : here ≡ true → i + 1 < length row → Gains row (set row (i + 1) 1) (Occurs (recorded rows width) a i)
   occurs-here e l =
       gains-as (λ j k. (λ q. (omega arith, subst T (sym e ∙ h) tt), λ (q, o). omega arith)) (gains-one row (i + 1) l)
 
-  -- Where it does not nothing is.
+  -- Where the atom does not hold nothing is set.
   pub occurs-not : here ≡ false → Gains row row (Occurs (recorded rows width) a i)
   occurs-not e = gains-none row _ (λ j k (q, o). subst T (sym h ∙ e) o)
 
--- Where the tick after is past the row nothing is either.
+-- Where the tick after is past the row nothing is set.
 pub occurs-past : (rows : List ℕ) (width a i : ℕ) (row : List ℕ) → length row ≤ i + 1 → Gains row row (Occurs (recorded rows width) a i)
 occurs-past rows width a i row l = gains-none row _ (λ j k (q, o). omega arith)

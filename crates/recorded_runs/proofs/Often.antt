@@ -47,11 +47,11 @@ module _ (σ : ℕ → ℕ → Bool) (b : ℕ) where
   often-on true n i t e x = rw (add-one n, add-one t) (goto-often (suc n) i (suc t) (goto-with n i t x (subst T e tt)))
   often-on false n i t e x = rw (add-zero n, add-one t) (often-without n i t x (subst (λ z. T (not z)) e tt))
 
-  -- A run of b[=n] does not end before it begins ..
+  -- A run of b[=n] does not end before it begins.
   often-forward : (n i j : ℕ) → NonconsecRuns σ b n i j → i ≤ j
   often-forward n i j (k, g, l, m) = omega (arith, times-forward (UntilFirst σ b) (λ i j (k, l, e, _, _). omega arith) n i k g)
 
-  -- .. and has a tick with its last b, before which b is seen one time less.
+  -- A run of b[=n + 1] has a tick with its last b, before which b is seen one time less.
   pub last-of-often : (n i j : ℕ) → NonconsecRuns σ b (suc n) i j
       → (t : ℕ) × (i ≤ t) × (t < j) × T (σ t b) × NonconsecRuns σ b n i t × Never σ b (suc t) j
   last-of-often n i j (k, (m, g, (t, l, e, f, h)), l′, r) =

@@ -1,4 +1,4 @@
--- Recorded ticks (02, ticket 3: "rows of atom bytes"), and the runs that are read off them.
+-- Recorded ticks (SPECIFICATION, "The matcher": "rows of bytes"), and the runs that are read off them.
 -- Example: the bytes 1 0, 0 1 of width 2 are two ticks: atom 0 holds at tick 0, and atom 1 at tick 1.
 use mathlib.Core.Bool.{Bool, true, false}
 use mathlib.Core.List.{List}
@@ -8,7 +8,7 @@ use Rattle.meaning.specs.Demand3.{trace}
 use Rattle.meaning.specs.Match.{Runs, GotoRuns, NonconsecRuns, Always}
 use Rattle.runs.specs.Ends.{Kept}
 
--- The atoms' bytes at tick t: rows are "ticks times width bytes, row by row".
+-- The atoms' bytes at tick t: rows are "a row for each tick and in it a byte for each atom".
 abbrev pub atoms-at : List ℕ → ℕ → ℕ → List ℕ
 atoms-at rows width t = take width (drop (t * width) rows)
 
@@ -32,6 +32,6 @@ pub record Last (rows : List ℕ) (width c i side last : ℕ) : Type 0 where
   pub always : Always (recorded rows width) c i last
   pub longest : (j : ℕ) → last < j → j < side → Always (recorded rows width) c i j → ⊥
 
--- "Throughout: condition at every tick", of the runs of a table.
+-- "a run of s at every tick of which c is 1", of the runs of a table.
 abbrev pub Throughout : List ℕ → ℕ → ℕ → List ℕ → ℕ → ℕ → Runs
 Throughout tables table side rows width c i j = (_ : Kept tables table side i j) × Always (recorded rows width) c i j

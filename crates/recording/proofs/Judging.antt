@@ -34,7 +34,7 @@ pub record GoodTree (t : List ℕ) : Type 0 where
   pub checked : table t ≡ Formed
   pub repeats : lowest-failing 6 (over-an-atom t) (nodes t) 0 Formed ≡ Formed
 
--- .. which is what it means that nothing was found of it.
+-- A tree of which nothing was found passed 1, 2, 3 and 6.
 pub a-good-tree : (t : List ℕ) → judged-tree t ≡ Formed → GoodTree t
 unfolding judged-tree
 a-good-tree t e =
@@ -50,7 +50,7 @@ pub record GoodRows (t rows : List ℕ) (width : ℕ) : Type 0 where
   pub bits : all-bits rows ≡ true
   pub inside : all-in-the-row t width (nodes t) ≡ true
 
--- .. which is what its tests say.
+-- Rows that the tests of 17 let pass are good.
 pub rows-are-good : (t rows : List ℕ) (width : ℕ) → good-rows t rows width ≡ true → GoodRows t rows width
 unfolding good-rows
 rows-are-good t rows width e =
@@ -74,47 +74,47 @@ module _ (ticks : ℕ) (short : ticks ≤ 256) where
 
 -- The answer, after what was found of the tree.
 module _ (t rows : List ℕ) (width answers work : ℕ) {found : Table} (e : found ≡ judged-tree t) where
-  -- A refusal of the tree is the answer ..
+  -- A refusal of the tree is the answer.
   pub a-refused-tree : {r : Matched} {number place : ℕ} → found ≡ Misformed number place → r ≡ table-answer found → r ≡ judged t rows width answers work
   unfolding judged judged-rows table-answer
   a-refused-tree q a = a ∙ rw (← e, q) refl
 
   module _ (q : found ≡ Formed) where
-    -- .. or the rows are left to be judged.
+    -- Where the tree is not refused, the rows are left to be judged.
     after-the-tree : judged t rows width answers work ≡ judged-rows Formed t rows width answers work
     unfolding judged
     after-the-tree = rw (← e, q) refl
 
-    -- Then the tree has few nodes.
+    -- A tree that is not refused has few nodes.
     pub few-nodes : nodes t ≤ 64
     few-nodes = a-good-tree t (sym e ∙ q) .few
 
     module _ {good : Bool} (g : good ≡ good-rows t rows width) where
-      -- Rows that are not good are refused ..
+      -- Rows that are not good are refused.
       pub refused-rows : not good ≡ true → Refused 17 0 ≡ judged t rows width answers work
       unfolding judged-rows
       refused-rows n = rw after-the-tree (pick-no _ (sym g ∙ not-true good n) refl)
 
       module _ (y : not good ≡ false) where
-        -- .. and those that are ..
+        -- Rows that are not refused are good.
         good-rows-hold : good-rows t rows width ≡ true
         good-rows-hold = sym g ∙ not-false good y
 
-        -- .. have a width ..
+        -- Good rows have a width.
         pub some-width : 0 < width
         some-width = rows-are-good t rows width good-rows-hold .wide
 
-        -- .. and few ticks.
+        -- Good rows have few ticks.
         pub few-ticks : length rows / width ≤ 256
         few-ticks = rows-are-good t rows width good-rows-hold .short
 
         module _ {enough : Bool} (h : enough ≡ room-enough t (length rows / width) answers work) where
-          -- Too little room is refused ..
+          -- Too little room is refused.
           pub refused-room : not enough ≡ true → Refused 18 0 ≡ judged t rows width answers work
           unfolding judged-rows
           refused-room n = rw after-the-tree (pick-yes _ good-rows-hold (pick-no _ (sym h ∙ not-true enough n) refl))
 
-          -- .. and with enough of it there is an answer.
+          -- With enough room there is an answer.
           pub so-many-ticks : not enough ≡ false → Ticks (length rows / width) ≡ judged t rows width answers work
           unfolding judged-rows
           so-many-ticks n = rw after-the-tree (pick-yes _ good-rows-hold (pick-yes _ (sym h ∙ not-false enough n) refl))

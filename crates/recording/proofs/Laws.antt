@@ -9,10 +9,12 @@ use native.Mathlib.Omega.{arith}
 use native.Mathlib.Decide.{ℕ-discrete}
 use lib.Dec.{ltb}
 use lib.ListN.{length}
-use borrow.Author.Tests.{eqb-true, ltb-true, ltb-false, leb-true, eq-eqb, ne-eqb, le-ltb}
-use Rattle.words.specs.Choice.{pick-true, pick-false}
+use borrow.Author.Tests.{eqb-true, ltb-true, ltb-false, leb-true, le-ltb}
+use Rattle.words.specs.Choice.{pick, pick-false}
 use Rattle.words.proofs.Taken.{first-taken, both-hold, second-holds}
 use Rattle.meaning.specs.Tree.{node-at, nodes}
+use Rattle.meaning.specs.Kinds.{columns}
+use Rattle.meaning.specs.declared.Part.the-variants.{Atom}
 use Rattle.meaning.specs.declared.Table.{Table}
 use Rattle.meaning.specs.declared.Table.the-variants.{Formed, Refused as Misformed}
 use Rattle.meaning.proofs.Formed.{each-passes, a-formed-table}
@@ -25,7 +27,7 @@ use Rattle.recording.proofs.Judging.{a-good-tree, GoodRows, rows-are-go
 refused-is-not-ticks : {number place ticks : ℕ} → Refused number place ≡ Ticks ticks → ⊥
 refused-is-not-ticks e = let z : _≡_ {A = ℕ} 0 1 = cc in omega arith
 
--- .. and two answers of ticks are of the same.
+-- Two equal answers of ticks are of the same number.
 same-ticks : {n m : ℕ} → Ticks n ≡ Ticks m → n ≡ m
 same-ticks e = cc
 
@@ -34,24 +36,17 @@ stands-over-an-atom : (t : List ℕ) (n : ℕ) → over-an-atom t n ≡ true →
 unfolding over-an-atom
 stands-over-an-atom t n e low high = eqb-true _ _ (sym (pick-false _ _ (le-ltb _ _ low) ∙ pick-false _ _ (le-ltb _ _ high)) ∙ e)
 
--- .. a goto as well as a nonconsecutive repetition.
+-- A goto that passed 6 stands over an atom, as well as a nonconsecutive repetition.
 over-its-atom : (t : List ℕ) (n : ℕ) → over-an-atom t n ≡ true → (node-at t n .kind ≡ 4) ⊎ (node-at t n .kind ≡ 5) → node-at t (node-at t n .p) .kind ≡ 1
 over-its-atom t n e (inl goto) = stands-over-an-atom t n e (omega arith) (omega arith)
 over-its-atom t n e (inr nonconsec) = stands-over-an-atom t n e (omega arith) (omega arith)
 
--- An atom of a node that is in the row stands in it ..
-the-atom-is-in-the-row : (t : List ℕ) (width n : ℕ) → in-the-row t width n ≡ true → node-at t n .kind ≡ 1 → node-at t n .p < width
-unfolding in-the-row
-the-atom-is-in-the-row t width n e k = ltb-true _ _ (sym (pick-true _ _ (eq-eqb _ _ k)) ∙ e)
+-- An atom of a node that is in the row stands in it.
+the-atom-is-in-the-row : (t : List ℕ) (width n : ℕ) → in-the-row t width n ≡ true → columns (node-at t n .kind) .p ≡ Atom → node-at t n .p < width
+unfolding in-the-row pick
+the-atom-is-in-the-row t width n e is = ltb-true _ _ (rw is at e)
 
--- .. and so does a condition.
-the-condition-is-in-the-row : (t : List ℕ) (width n : ℕ) → in-the-row t width n ≡ true → node-at t n .kind ≡ 6 → node-at t n .p < width
-unfolding in-the-row
-the-condition-is-in-the-row t width n e k =
-    let no-atom : node-at t n .kind ≡ 1 → ⊥ = λ q. omega arith in
-    ltb-true _ _ (sym (pick-false _ _ (ne-eqb _ _ no-atom) ∙ pick-true _ _ (eq-eqb _ _ k)) ∙ e)
-
--- Where all nodes are in the row, each of them is.
+-- Where all nodes are in the row, each node is.
 each-in-the-row : (t : List ℕ) (width count : ℕ) → all-in-the-row t width count ≡ true → (n : ℕ) → n < count → in-the-row t width n ≡ true
 unfolding all-in-the-row
 each-in-the-row t width zero e n h = absurd (omega arith)
@@ -97,7 +92,6 @@ an-answer-is-matchable t rows width answers work e =
       few = tree .few;
       over-atoms = λ n h. over-its-atom t n (each-passes 6 (over-an-atom t) (nodes t) 0 Formed (tree .repeats) n (omega arith) (omega arith));
       atoms = λ n h. the-atom-is-in-the-row t width n (each-in-the-row t width (nodes t) (r .inside) n h);
-      conditions = λ n h. the-condition-is-in-the-row t width n (each-in-the-row t width (nodes t) (r .inside) n h);
       wide = r .wide;
       counted = sym same;
       even = rw same at (whole-ticks rows r);

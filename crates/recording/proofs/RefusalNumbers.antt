@@ -29,7 +29,7 @@ abbrev pub Numbered : Matched → Type 0
 Numbered (Ticks ticks) = Unit {0}
 Numbered (Refused number place) = RefusalNumber number
 
--- 1, 2 and 3, with which lowering refuses the same table ..
+-- The refusals 1, 2 and 3 are those with which lowering refuses the same table.
 not-lowered : (t : List ℕ) {number place : ℕ} → table t ≡ Misformed number place → lower t 0 0 0 ≡ NotLowered number place
 unfolding lower after-nothing
 not-lowered t e = rw e refl
@@ -39,7 +39,7 @@ table-numbered t Formed e = tt
 table-numbered t (Misformed number place) e =
     let (some, few) = rw (not-lowered t e) at (refusals-are-numbered-from-1-to-14 t 0 0 0) in (omega arith, omega arith)
 
--- .. 6 ..
+-- The refusal 6 has its number.
 lowest-numbered : (test : ℕ → Bool) (count n : ℕ) → TableNumbered (lowest-failing 6 test count n Formed)
 unfolding lowest-failing
 lowest-numbered test zero n = tt
@@ -56,7 +56,7 @@ tree-numbered t =
     pick-case TableNumbered (ltb 64 (nodes t)) (λ _. omega arith)
     (λ _. and-then-numbered (table t) _ (table-numbered t (table t) refl) (lowest-numbered (over-an-atom t) (nodes t) 0))
 
--- .. and 17 and 18.
+-- The refusals 17 and 18 have their numbers.
 rows-numbered : (found : Table) → TableNumbered found → (t rows : List ℕ) (width answers work : ℕ) → Numbered (judged-rows found t rows width answers work)
 unfolding judged-rows
 rows-numbered (Misformed number place) p t rows width answers work = p

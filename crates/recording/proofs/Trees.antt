@@ -27,17 +27,17 @@ repeated-is-lower n v w low high =
 
 -- 6 at the node n, from the words v that were read.
 module _ (t : List ℕ) (n : ℕ) {v : Node} (w : v ≡ node-at t n) where
-  -- Other kinds pass ..
+  -- Kinds below 4 pass 6.
   pub a-kind-below : v .kind < 4 → true ≡ over-an-atom t n
   unfolding over-an-atom
   a-kind-below k = rw (← w) (pick-yes _ (lt-ltb _ _ k) refl)
 
-  -- .. on both sides ..
+  -- Kinds above 5 pass 6.
   pub a-kind-above : 4 ≤ v .kind → 5 < v .kind → true ≡ over-an-atom t n
   unfolding over-an-atom
   a-kind-above low k = rw (← w) (pick-no _ (le-ltb _ _ low) (pick-yes _ (lt-ltb _ _ k) refl))
 
-  -- .. and of the kinds 4 and 5 the operand decides, whose words are u.
+  -- Of the kinds 4 and 5 the operand decides, whose words are u.
   pub the-operand-decides : {u : Node} → 4 ≤ v .kind → v .kind ≤ 5 → u ≡ node-at t (v .p) → eqb (u .kind) 1 ≡ over-an-atom t n
   unfolding over-an-atom
   the-operand-decides low high e = rw (← w, e) (pick-no _ (le-ltb _ _ low) (pick-no _ (le-ltb _ _ high) refl))
@@ -55,12 +55,12 @@ module _ (t : List ℕ) (n : ℕ) {v : Node} (w : v ≡ node-at t n) where
 
 -- The tree's refusals, one after the other.
 module _ (t : List ℕ) {r : Table} (few : nodes t ≤ 64) (e : r ≡ table t) where
-  -- 1, 2 or 3 refuses ..
+  -- A refusal by 1, 2 or 3 comes first.
   pub misformed-first : {number place : ℕ} → r ≡ Misformed number place → r ≡ judged-tree t
   unfolding judged-tree and-then
   misformed-first q = pick-no _ (le-ltb _ _ few) (rw (← e, q) refl)
 
-  -- .. or 6 is left.
+  -- A formed table is left to 6.
   pub then-6 : {s : Table} → r ≡ Formed → s ≡ lowest-failing 6 (over-an-atom t) (nodes t) 0 Formed → s ≡ judged-tree t
   unfolding judged-tree and-then
   then-6 q e′ = pick-no _ (le-ltb _ _ few) (rw (← e, q) e′)

@@ -7,9 +7,11 @@ use mathlib.Core.List.{List}
 use Prim.Native.Nat.{ℕ, _+_, _*_, _/_, _≤_, _<_}
 use lib.ListN.{length}
 use Rattle.meaning.specs.Tree.{node-at, nodes}
+use Rattle.meaning.specs.Kinds.{columns}
 use Rattle.meaning.specs.Tick.{all-bits}
 use Rattle.meaning.specs.Refusals.{table}
 use Rattle.meaning.specs.Lowerable.{FormedTable}
+use Rattle.meaning.specs.declared.Part.the-variants.{Atom}
 use Rattle.meaning.specs.declared.Table.the-variants.{Formed}
 
 -- A tree and rows that can be matched, with so many bytes of answers and of work.
@@ -18,8 +20,7 @@ pub record Matchable (tree rows : List ℕ) (width ticks answers work : ℕ) : T
   pub formed : FormedTable tree
   pub few : nodes tree ≤ 64
   pub over-atoms : (n : ℕ) → n < nodes tree → (node-at tree n .kind ≡ 4) ⊎ (node-at tree n .kind ≡ 5) → node-at tree (node-at tree n .p) .kind ≡ 1
-  pub atoms : (n : ℕ) → n < nodes tree → node-at tree n .kind ≡ 1 → node-at tree n .p < width
-  pub conditions : (n : ℕ) → n < nodes tree → node-at tree n .kind ≡ 6 → node-at tree n .p < width
+  pub atoms : (n : ℕ) → n < nodes tree → columns (node-at tree n .kind) .p ≡ Atom → node-at tree n .p < width
   pub wide : 0 < width
   pub counted : ticks ≡ length rows / width
   pub even : ticks * width ≡ length rows

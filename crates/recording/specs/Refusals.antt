@@ -1,4 +1,4 @@
--- What the matcher refuses (02, ticket 3), in its order: "1, 2, 3 (1 also above 64 nodes); 6 for kinds 4 and 5, lowest node; 17 ..; 18 ..".
+-- What the matcher refuses (SPECIFICATION, "Refusals"), in its order: "with 1, 2 and 3 as lowering does .. then with 6 .. then with 17, then with 18.".
 -- Example: three nodes over ten ticks need 363 bytes of work; with 362 the answer is Refused 18 0.
 use mathlib.Core.Bool.{Bool, true, false}
 use mathlib.Core.List.{List}
@@ -7,6 +7,7 @@ use lib.Dec.{eqb, ltb, leb}
 use lib.ListN.{length}
 use Rattle.words.specs.Choice.{pick}
 use Rattle.meaning.specs.Tree.{node-at, nodes}
+use Rattle.meaning.specs.Kinds.{columns, is-atom}
 use Rattle.meaning.specs.Tick.{all-bits}
 use Rattle.meaning.specs.Refusals.{lowest-failing, table}
 use Rattle.meaning.specs.declared.Table.{Table}
@@ -24,18 +25,17 @@ unfoldable pub and-then : Table → Table → Table
 and-then Formed next = next
 and-then (Misformed number place) next = Misformed number place
 
--- "1, 2, 3 (1 also above 64 nodes); 6 for kinds 4 and 5, lowest node".
+-- "with 1, 2 and 3 as lowering does, and with 1 .. also where there are more than 64 nodes .. then with 6".
 unfoldable pub judged-tree : List ℕ → Table
 judged-tree tree =
     let repeats = lowest-failing 6 (over-an-atom tree) (nodes tree) 0 Formed in
     pick (ltb 64 (nodes tree)) (Misformed 1 0) (and-then (table tree) repeats)
 
--- The atom of kind 1 and the condition of kind 6 stand in the row.
+-- The atom or the condition of a node, which p alone may be, stands in the row.
 unfoldable pub in-the-row : List ℕ → ℕ → ℕ → Bool
-in-the-row tree width n =
-    let v = node-at tree n in pick (eqb (v .kind) 1) (ltb (v .p) width) (pick (eqb (v .kind) 6) (ltb (v .p) width) true)
+in-the-row tree width n = let v = node-at tree n in pick (is-atom (columns (v .kind) .p)) (ltb (v .p) width) true
 
--- .. of each of count nodes, "visited or not".
+-- The atom or the condition of each of count nodes, "visited or not", stands in the row.
 unfoldable pub all-in-the-row : List ℕ → ℕ → ℕ → Bool
 all-in-the-row tree width zero = true
 all-in-the-row tree width (suc count) = pick (in-the-row tree width count) (all-in-the-row tree width count) false
@@ -44,7 +44,7 @@ all-in-the-row tree width (suc count) = pick (in-the-row tree width count) (all-
 abbrev pub ticks-of : List ℕ → ℕ → ℕ
 ticks-of rows width = length rows / width
 
--- 17: "rows of zero width, rows uneven, above 256 ticks, a byte above 1, or an atom outside the row".
+-- 17: "the rows' width is 0, their bytes are no multiple of it, there are more than 256 ticks, a byte is above 1, or ..".
 unfoldable pub good-rows : List ℕ → List ℕ → ℕ → Bool
 good-rows tree rows width =
     pick (eqb width 0)
@@ -53,7 +53,7 @@ good-rows tree rows width =
     (pick (ltb 256 (ticks-of rows width)) false (pick (all-bits rows) (all-in-the-row tree width (nodes tree)) false))
     false)
 
--- 18: "answers shorter than the ticks, or work below nodes times (ticks + 1) squared bytes".
+-- 18: "the answers are shorter than the ticks, or work has less than nodes times (ticks + 1) squared bytes".
 unfoldable pub room-enough : List ℕ → ℕ → ℕ → ℕ → Bool
 room-enough tree ticks answers work = pick (ltb answers ticks) false (leb (nodes tree * ((ticks + 1) * (ticks + 1))) work)
 

@@ -1,4 +1,4 @@
-// What is judged before a recording is matched (02, ticket 3): refusals 1, 2, 3 and 6 of the tree, 17 of the rows, 18 of the room, in this
+// What is judged before a recording is matched (SPECIFICATION, "Refusals"): refusals 1, 2, 3 and 6 of the tree, 17 of the rows, 18 of the room, in this
 // order. Nothing is written.
 //
 // Example: the words of `a ##1 b` with rows of width 1 are answered Refused(17, 0): atom 1 stands in no row.
@@ -29,13 +29,13 @@ fn over_an_atom(tree: &[u32], n: u32) -> bool
     ensures { λ r. ⌜ r ≡ over-an-atom (now (tree .entry)) n ⌝ }
 {
     let v = tree::read(tree, n);
-    if v.kind < 4 {
+    if v.kind < meaning::kind::GOTO {
         return true;
     }
-    if 5 < v.kind {
+    if meaning::kind::NONCONSECUTIVE < v.kind {
         return true;
     }
-    tree::read(tree, v.p).kind == 1
+    tree::read(tree, v.p).kind == meaning::kind::ATOM
 }
 
 // The lowest node that 6 refuses.
@@ -73,16 +73,14 @@ fn in_the_row(tree: &[u32], width: usize, n: u32) -> bool
     ensures { λ r. ⌜ r ≡ in-the-row (now (tree .entry)) width n ⌝ }
 {
     let v = tree::read(tree, n);
-    if v.kind == 1 {
-        return (v.p as usize) < width;
+    let part = tree::columns(v.kind).p;
+    if !tree::is_atom(part) {
+        return true;
     }
-    if v.kind == 6 {
-        return (v.p as usize) < width;
-    }
-    true
+    (v.p as usize) < width
 }
 
-// .. and those of every node.
+// Whether the atom or the condition of every node stands in the row.
 fn all_in_the_row(tree: &[u32], width: usize, count: u32) -> bool
     requires { ⌜ (count * 5 ≤ length (now tree)) × (count ≤ 4096) ⌝ }
     ensures { λ r. ⌜ r ≡ all-in-the-row (now (tree .entry)) width count ⌝ }

@@ -27,7 +27,7 @@ module _ (tables : List ℕ) (table side : ℕ) where
   abbrev Begun : ℕ → Runs
   Begun k i j = (i < k) × Kept tables table side i j
 
-  -- They go forward.
+  -- The runs of the table that begin below k go forward.
   begun-forward : (k : ℕ) → Forward (Begun k)
   begun-forward k i j (l, x) = kept-forward i j x
 
@@ -35,7 +35,7 @@ module _ (tables : List ℕ) (table side : ℕ) where
   later : (k c i j : ℕ) → Times c (Begun k) i j → Times c (Begun (k + 1)) i j
   later k c i j = times-until (Begun k) (Begun (k + 1)) (begun-forward k) c i j (λ a b h (l, x). (omega arith, x))
 
-  -- Those that end below k begin below k.
+  -- Runs in a row that end below k begin below k.
   earlier : (k c i j : ℕ) → j < k → Times c (Begun (k + 1)) i j → Times c (Begun k) i j
   earlier k c i j p =
       times-until (Begun (k + 1)) (Begun k) (begun-forward (k + 1)) c i j (λ a b h (l, x). (omega (arith, x .0), x))
@@ -61,7 +61,7 @@ pub record Closing (tables : List ℕ) (table first : ℕ) (before after : List 
   pub since : first ≤ k
   pub gained : Gains before after (Onward (Begun tables table (length before) k) before first)
 
--- At first none were.
+-- At first no ends were added.
 pub closing-begins : (tables : List ℕ) (table first : ℕ) (row : List ℕ) → Closing tables table first row row first
 closing-begins tables table first row = record {
   since = omega arith;

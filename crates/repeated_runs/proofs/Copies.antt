@@ -52,7 +52,7 @@ module _ (R : Runs) (f : Forward R) where
         | no e ↦ (k, one-left-out c i k (omega (arith, f k j x)) xs, x)
       ]
 
-  -- It can be put in once more, too.
+  -- Among more runs than there are ticks an empty one can be put in once more.
   one-put-in : (c i j : ℕ) → j < i + c → Times c R i j → Times (suc c) R i j
   one-put-in zero i j l e = absurd (omega arith)
   one-put-in (suc c) i j l (k, xs, x) =
@@ -61,7 +61,7 @@ module _ (R : Runs) (f : Forward R) where
         | no e ↦ (k, one-put-in c i k (omega (arith, f k j x)) xs, x)
       ]
 
-  -- So all counts of more runs than there are ticks reach the same.
+  -- All counts of more runs than there are ticks reach the same.
   pub past-the-ticks : (c d i j : ℕ) → j < i + c → c ≤ d → Times c R i j ↔ Times d R i j
   past-the-ticks c d i j l p =
       from-there-on (λ n. Times c R i j ↔ Times n R i j) c d p (λ xs. xs, λ xs. xs)

@@ -23,18 +23,18 @@ pub comparing-begins : (x y : List ℕ) (side : ℕ) → Comparing x y side 0
 comparing-begins x y side = record { inside = omega arith; alike = λ k l. absurd (omega arith) }
 
 module _ {x y : List ℕ} {side j : ℕ} (C : Comparing x y side j) where
-  -- They are the same at j too.
+  -- Rows that are the same below j and at j are the same below j + 1.
   pub comparing-on : j < side → getD x j 0 ≡ getD y j 0 → Comparing x y side (j + 1)
   comparing-on l e = record {
     inside = omega arith;
     alike = λ k h. elim (ℕ-discrete j k) [ yes z ↦ subst (λ n. getD x n 0 ≡ getD y n 0) z e | no z ↦ C .alike k (omega arith) ];
   }
 
-  -- They differ at j.
+  -- Rows that differ at j are not alike.
   pub differ-here : j < side → (getD x j 0 ≡ getD y j 0 → ⊥) → Tells false (Alike x y side)
   differ-here l n = inr (refl, λ a. n (a j l))
 
-  -- They differ nowhere.
+  -- Rows that are the same up to their side are alike.
   pub differ-nowhere : side ≤ j → Tells true (Alike x y side)
   differ-nowhere l = inl (refl, λ k h. C .alike k (omega arith))
 
@@ -43,28 +43,28 @@ module _ (row : List ℕ) (n : ℕ) (w : length row ≡ 257) (f : n ≤ 257) whe
   pub part-long : length (take n row) ≡ n
   part-long = length-take-le n row (omega arith)
 
-  -- So they are no more than a row has.
+  -- The first n bytes of a row are no more than a row has.
   pub part-short : length (take n row) ≤ 257
   part-short = omega (arith, part-long)
 
-  -- They are no fewer than n, either.
+  -- The first n bytes of a row are no fewer than n.
   pub part-covers : n ≤ length (take n row)
   part-covers = omega (arith, part-long)
 
-  -- A table with a side of n has one as long as they are.
+  -- A table with a side of n has one as long as the first n bytes of a row.
   pub part-fits : (table size : ℕ) → table + n * n ≤ size → table + length (take n row) * length (take n row) ≤ size
   part-fits table size p = rw part-long p
 
-  -- They carry what the row carries there.
+  -- The first n bytes of a row carry what the row carries there.
   pub part-carries : {P : ℕ → Type 0} → Carries row n P → Carries (take n row) n P
   part-carries C = record { ends = λ j l. rw (getD-take n row j 0 l) (C .ends j l) }
 
   module _ {after : List ℕ} {P : ℕ → Type 0} (g : Gains (take n row) after P) where
-    -- Where they gained ends the row is as long as it was.
+    -- Where the first n bytes gained ends, the row is as long as it was.
     pub whole-long : length (after ++ drop n row) ≡ 257
     whole-long = omega (arith, length-append after (drop n row), length-drop n row, g .long, part-long)
 
-    -- It carries there what they carry.
+    -- Where the first n bytes gained ends, the row carries there what they carry.
     pub whole-carries : {Q : ℕ → Type 0} → ((j : ℕ) → j < n → In after j ↔ Q j) → Carries (after ++ drop n row) n Q
     whole-carries C = record {
       ends = λ j h. let k : j < length after = omega (arith, g .long, part-long) in rw (List·getD-append after (drop n row) 0 j k) (C j h);
@@ -75,7 +75,7 @@ module _ (row : List ℕ) (n : ℕ) (w : length row ≡ 257) (f : n ≤ 257) whe
     carries-what-it-gained e =
         whole-carries (λ j h. in-gained-blank (part-blank n row (rw e (zeros-blank 257))) g j (omega (arith, part-long)))
 
--- So it does where these are the ends that a table reaches.
+-- A row without ends whose first bytes gained the ends that a table reaches carries these ends.
 pub carries-what-is-reached : (tables : List ℕ) (table first : ℕ) (from : List ℕ) {row after : List ℕ} → row ≡ replicate 257 0 → length row ≡ 257
     → length from ≤ 257 → Gains (take (length from) row) after (Reached tables table (length (take (length from) row)) from first 0)
     → Carries (after ++ drop (length from) row) (length from) (Reached tables table (length from) from first 0)

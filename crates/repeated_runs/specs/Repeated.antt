@@ -1,4 +1,4 @@
--- A repetition of a table's runs (01, "What a match is": "Repetition joins by ##1").
+-- A repetition of a table's runs (SPECIFICATION, "What a match is": "joined by ##1").
 -- Example: twice the runs [0, 1) and [1, 2) is [0, 2).
 use mathlib.Core.Path.{_≡_}
 use mathlib.Core.Logic.{_⊎_, _↔_}

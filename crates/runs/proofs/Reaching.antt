@@ -13,12 +13,12 @@ use Rattle.runs.proofs.Laws.{row-inside, in-inside, marked-as, gains-no
 abbrev pub Added : List ℕ → ℕ → ℕ → ℕ → Type 0
 Added tables place first j = (first ≤ j) × (getD tables (place + j) 0 ≡ 1)
 
--- Those below j were added.
+-- The ends of the row that are below j were added.
 pub record Adding (tables : List ℕ) (place first : ℕ) (before after : List ℕ) (j : ℕ) : Type 0 where
   pub since : first ≤ j
   pub gained : Gaining before after (Added tables place first) j
 
--- At first none was.
+-- At first no end of the row was added.
 pub adding-begins : (tables : List ℕ) (place first : ℕ) (row : List ℕ) → Adding tables place first row row first
 adding-begins tables place first row = record {
   since = omega arith;
@@ -34,7 +34,7 @@ adding-on a l m = record {
   gained = gaining-on (a .gained) l (marked-as (λ e. (a .since, e), λ q. q .1) m);
 }
 
--- At the row's end all were.
+-- At the row's end all its ends were added.
 pub adding-ends : {tables : List ℕ} {place first : ℕ} {before after : List ℕ} {j : ℕ} → Adding tables place first before after j
     → length after ≤ j → Gains before after (Added tables place first)
 adding-ends a l = gaining-ends (λ m k q. omega (arith, a .gained .long)) (a .gained)
@@ -44,7 +44,7 @@ pub record Reaching (tables : List ℕ) (table : ℕ) (from : List ℕ) (first l
   pub since : first ≤ k
   pub gained : Gains before after (λ j. (m : ℕ) × (m < k) × (first ≤ m) × In from m × (m + least ≤ j) × Kept tables table (length before) m j)
 
--- At first none were.
+-- At first no ends were reached.
 pub reaching-begins : (tables : List ℕ) (table : ℕ) (from : List ℕ) (first least : ℕ) (row : List ℕ)
     → Reaching tables table from first least row row first
 reaching-begins tables table from first least row = record {

@@ -1,4 +1,4 @@
--- Runs of ticks kept as bytes (01, "What a match is"). A table has a row for each tick at which a run can begin, and in it a byte for
+-- Runs of ticks kept as bytes (SPECIFICATION, "What a match is"). A table has a row for each tick at which a run can begin, and in it a byte for
 -- each at which it can end: over n ticks n + 1 of both, its side. A byte of 1 is a run. One row by itself is a set of ends.
 -- Example: over two ticks the table of the atom a that holds at tick 1 alone is 0 0 0, 0 0 1, 0 0 0: the run [1, 2).
 use mathlib.Core.Path.{_≡_}

@@ -1,4 +1,3 @@
-pub mod Tests
 pub mod Lowest
 pub mod Uses
 pub mod Checks

@@ -16,7 +16,7 @@ pub record Looking (refusal : ℕ) (test : ℕ → Bool) (count n : ℕ) : Type 
   pub turn : n ≤ count
   pub rest : lowest-failing refusal test count 0 Formed ≡ lowest-failing refusal test (count - n) n Formed
 
--- At first all nodes are to be looked at ..
+-- At first all nodes are to be looked at.
 pub looking-begins : (refusal : ℕ) (test : ℕ → Bool) (count : ℕ) → Looking refusal test count 0
 looking-begins refusal test count = record { turn = omega arith; rest = let e : count - 0 ≡ count = omega arith in rw e refl }
 
@@ -25,21 +25,21 @@ module _ {refusal : ℕ} {test : ℕ → Bool} {count n : ℕ} {b : Bool} (g : L
   unfolding lowest-failing
   this-node = let m : count - n ≡ suc (count - (n + 1)) = omega arith in g .rest ∙ rw (m, e) refl
 
-  -- .. a node that fails is the lowest ..
+  -- A node that fails is the lowest that does.
   pub fails-here : not b ≡ true → Misformed refusal n ≡ lowest-failing refusal test count 0 Formed
   fails-here p = sym (this-node ∙ pick-false _ _ (not-true b p))
 
-  -- .. one that passes is left behind ..
+  -- A node that passes is left behind.
   pub looking-on : not b ≡ false → Looking refusal test count (n + 1)
   looking-on p = record { turn = omega arith; rest = this-node ∙ pick-true _ _ (not-false b p) }
 
--- .. and at the end none has failed.
+-- At the end no node has failed.
 pub none-fails : {refusal : ℕ} {test : ℕ → Bool} {count n : ℕ} → Looking refusal test count n → count ≤ n
     → Formed ≡ lowest-failing refusal test count 0 Formed
 unfolding lowest-failing
 none-fails {refusal} {test} {count} {n} g h = let e : count - n ≡ 0 = omega arith in sym (g .rest ∙ rw e refl)
 
--- Where each node passes, what comes then is the answer ..
+-- Where each node passes, what comes then is the answer.
 pub then-follows : (refusal : ℕ) (test : ℕ → Bool) (then : Table) (count n : ℕ) → lowest-failing refusal test count n Formed ≡ Formed
     → lowest-failing refusal test count n then ≡ then
 unfolding lowest-failing
@@ -53,7 +53,7 @@ unfolding pick
 refused-here y true f e = f e
 refused-here y false f e = e
 
--- .. and a refusal is the answer, whatever would come then.
+-- A refusal is the answer, whatever would come after it.
 pub refused-first : (refusal : ℕ) (test : ℕ → Bool) (then : Table) {number place : ℕ} (count n : ℕ)
     → lowest-failing refusal test count n Formed ≡ Misformed number place → lowest-failing refusal test count n then ≡ Misformed number place
 unfolding lowest-failing

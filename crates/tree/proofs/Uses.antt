@@ -1,4 +1,4 @@
--- The list that counts all nodes' uses in one pass holds for each node what 01's count of its uses comes to, up to 2: so
+-- The list that counts all nodes' uses in one pass holds for each node what the specification's count of its uses comes to, up to 2: so
 -- that it is 1 where the node is used once.
 use mathlib.Core.Path.{_≡_, refl, sym, _∙_}
 use mathlib.Core.Bool.{Bool, true, false, not}
@@ -13,7 +13,9 @@ use lib.Seq.{getD-set-same, getD-set-other}
 use borrow.Author.Tests.{not-true, not-false, eq-eqb, ne-eqb, le-leb, lt-leb}
 use Rattle.words.specs.Choice.{pick, pick-case, pick-yes, pick-no}
 use Rattle.meaning.specs.Tree.{node-at}
+use Rattle.meaning.specs.Kinds.{columns, is-operand}
 use Rattle.meaning.specs.Refusals.{uses-p, uses-q, uses-in, uses}
+use Rattle.meaning.specs.declared.Columns.{Columns}
 use Rattle.meaning.specs.declared.Node.{Node}
 use Rattle.tree.specs.Uses.{use-if, use-operands, used-by, OperandsWithin, AllOperandsWithin}
 
@@ -48,14 +50,14 @@ up-to-2 zero = 0
 up-to-2 (suc zero) = 1
 up-to-2 (suc (suc n)) = 2
 
--- One more of it.
+-- One use more, counted up to 2.
 one-more : (u : ℕ) → pick (leb 2 (up-to-2 u)) (up-to-2 u) (up-to-2 u + 1) ≡ up-to-2 (suc u)
 unfolding pick
 one-more zero = refl
 one-more (suc zero) = refl
 one-more (suc (suc u)) = refl
 
--- It is 1 where the number is.
+-- A number counted up to 2 is 1 where the number is.
 once-up-to-2 : (u : ℕ) → eqb (up-to-2 u) 1 ≡ eqb u 1
 once-up-to-2 zero = refl
 once-up-to-2 (suc zero) = refl
@@ -73,7 +75,7 @@ other-node-used : (used : List ℕ) (j k : ℕ) → (k ≡ j → ⊥) → getD (
 other-node-used used j k other =
     pick-case (λ (l : List ℕ). getD l k 0 ≡ getD used k 0) (leb 2 (getD used j 0)) (λ e. refl) (λ e. getD-set-other used j k _ 0 other)
 
--- .. so that each use adds what 01's count adds ..
+-- Each use adds what the specification's count adds.
 use-if-counts : (used : List ℕ) (operand : Bool) (j k u : ℕ) → (operand ≡ true → j < length used) → getD used k 0 ≡ up-to-2 u
     → getD (use-if used operand j) k 0 ≡ up-to-2 (u + pick operand (pick (eqb j k) 1 0) 0)
 unfolding use-if pick
@@ -84,7 +86,7 @@ use-if-counts used true j k u within is = by (ℕ-discrete j k)
     by (yes same) = let n : u + 1 ≡ suc u = omega arith in rw (← same, eq-eqb j j refl, n) (this-node-used used j u (within refl) (rw same is))
     by (no other) = let n : u + 0 ≡ u = omega arith in rw (ne-eqb j k other, n) (other-node-used used j k (λ e. other (sym e)) ∙ is)
 
--- .. and each node its two.
+-- Each node adds the uses of its two operands.
 use-operands-counts : (used : List ℕ) (v : Node) (k u : ℕ) → OperandsWithin (length used) v → getD used k 0 ≡ up-to-2 u
     → getD (use-operands used v) k 0 ≡ up-to-2 (u + uses-in k v)
 unfolding use-operands uses-in
@@ -112,23 +114,23 @@ used-by-counts t used k (suc count) within none =
     use-operands-counts (used-by t count used) (node-at t count) k (uses t k count) (rw (length-used-by t count used) (within count (omega arith)))
     (used-by-counts t used k count (λ n l. within n (omega arith)) none)
 
--- So 2 can be decided from it.
+-- 2 can be decided from the list of uses.
 pub once-counted : (t : List ℕ) (used : List ℕ) (k count : ℕ) → AllOperandsWithin (length used) t count → getD used k 0 ≡ 0
     → eqb (getD (used-by t count used) k 0) 1 ≡ eqb (uses t k count) 1
 once-counted t used k count within none = rw (used-by-counts t used k count (within .each) none) (once-up-to-2 (uses t k count))
 
--- The two operands of a node, as the code makes it.
-module _ (used : List ℕ) {v : Node} {b : Bool} (within : OperandsWithin (length used) v) where
-  pub left-within : b ≡ uses-p v → b ≡ true → v .p < length used
-  left-within e q = within .left (sym e ∙ q)
+-- The two operands of a node, as the code makes it from its row of the table of kinds.
+module _ (used : List ℕ) (v : Node) {is : Columns} (e : is ≡ columns (v .kind)) {l : Bool} (p : l ≡ is-operand (is .p)) where
+  pub left-within : OperandsWithin (length used) v → l ≡ true → v .p < length used
+  left-within within u = within .left (rw (← e) (sym p ∙ u))
 
-  pub right-within : {used′ : List ℕ} (l : Bool) (p : ℕ) → used′ ≡ use-if used l p → b ≡ uses-q v → b ≡ true → v .q < length used′
-  right-within l p u e q = rw (u, length-use-if used l p) (within .right (sym e ∙ q))
+  module _ {used′ : List ℕ} (u : used′ ≡ use-if used l (v .p)) {r : Bool} (q : r ≡ is-operand (is .q)) where
+    pub right-within : OperandsWithin (length used) v → r ≡ true → v .q < length used′
+    right-within within h = rw (u, length-use-if used l (v .p)) (within .right (rw (← e) (sym q ∙ h)))
 
-pub used-both : (used : List ℕ) {used′ used″ : List ℕ} (v : Node) {l r : Bool} → l ≡ uses-p v → used′ ≡ use-if used l (v .p) → r ≡ uses-q v → used″ ≡ use-if used′ r (v .q)
-    → used″ ≡ use-operands used v
-unfolding use-operands
-used-both used v p u q u′ = u′ ∙ rw (u, p, q) refl
+    pub used-both : {used″ : List ℕ} → used″ ≡ use-if used′ r (v .q) → used″ ≡ use-operands used v
+    unfolding use-operands
+    used-both u′ = u′ ∙ rw (u, p, q, e) refl
 
 -- The pass over the nodes, as the code makes it.
 pub record UsingNodes (t used₀ used : List ℕ) (count n : ℕ) : Type 0 where
@@ -136,7 +138,7 @@ pub record UsingNodes (t used₀ used : List ℕ) (count n : ℕ) : Type 0 where
   pub long : length used ≡ length used₀
   pub holds : used ≡ used-by t n used₀
 
--- At first no node is counted ..
+-- At first no node is counted.
 pub using-begins : (t used : List ℕ) (count : ℕ) → UsingNodes t used used count 0
 unfolding used-by
 using-begins t used count = record { turn = omega arith; long = refl; holds = refl }
@@ -154,6 +156,6 @@ module _ {t used₀ used : List ℕ} {count n : ℕ} {v : Node} (g : UsingNodes 
   pub using-within : AllOperandsWithin (length used₀) t count → OperandsWithin (length used) v
   using-within within = rw (g .long, w) (within .each n h)
 
--- .. and at the end all are.
+-- At the end the uses of all nodes are in the list.
 pub using-ends : {t used₀ used : List ℕ} {count n : ℕ} → UsingNodes t used₀ used count n → count ≤ n → used ≡ used-by t count used₀
 using-ends {count = count} {n = n} g h = let e : count ≡ n = omega (arith, g .turn) in rw e (g .holds)

@@ -1,31 +1,25 @@
--- The tests of 1, 2 and 3 as the code makes them, node by node (01, "What is said no to").
--- Example: of the table 1,0,0,0,0 both `formed-at` and `ranged-at` hold at node 0.
+-- The tests of 1, 2 and 3 by the refusal's number, and what they start from (SPECIFICATION, "Refusals").
+-- Example: of the table 1,0,0,0,0 `passes 1` and `passes 3` hold at node 0.
 use mathlib.Core.Bool.{Bool}
 use mathlib.Core.Path.{_≡_}
 use mathlib.Core.List.{List}
-use Prim.Native.Nat.{ℕ, _*_, _≤_}
+use Prim.Native.Nat.{ℕ, _%_, _≤_}
 use lib.Dec.{eqb}
-use lib.ListN.{length, getD}
+use lib.ListN.{length, getD, replicate}
+use Rattle.words.specs.Choice.{pick}
 use Rattle.meaning.specs.Tree.{node-at, nodes}
-use Rattle.meaning.specs.Refusals.{lowest-failing, formed-node, range-node}
-use Rattle.meaning.specs.declared.Table.the-variants.{Formed}
+use Rattle.meaning.specs.Refusals.{formed-node, range-node}
 
--- 1, at node n of the table.
-abbrev pub formed-at : List ℕ → ℕ → Bool
-formed-at t n = formed-node n (node-at t n)
+-- Whether node n of the table passes the refusal, 2 by the list of all nodes' uses.
+unfoldable pub passes : ℕ → List ℕ → List ℕ → ℕ → Bool
+passes refusal t used n =
+    let v = node-at t n in pick (eqb refusal 2) (eqb (getD used n 0) 1) (pick (eqb refusal 1) (formed-node n v) (range-node v))
 
--- 3, at node n of the table.
-abbrev pub ranged-at : List ℕ → ℕ → Bool
-ranged-at t n = range-node (node-at t n)
-
--- 2, of node k, from the list of all nodes' uses.
-abbrev pub counted-once : List ℕ → ℕ → Bool
-counted-once used k = eqb (getD used k 0) 1
-
--- A table of count nodes that 1 let pass: what 2 starts from.
-pub record AllFormed (t : List ℕ) (count : ℕ) : Type 0 where
+-- A table of count nodes, and a cleared list in which each node has a place.
+pub record Checkable (t used : List ℕ) (count : ℕ) : Type 0 where
   pub whole : count ≡ nodes t
-  pub inside : count * 5 ≤ length t
+  pub fives : length t % 5 ≡ 0
   pub some : 1 ≤ count
-  pub few : count ≤ 4096
-  pub formed : lowest-failing 1 (formed-at t) count 0 Formed ≡ Formed
+  pub few : length t ≤ 20480
+  pub long : count ≤ length used
+  pub clear : used ≡ replicate (length used) 0

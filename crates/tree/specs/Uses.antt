@@ -1,5 +1,5 @@
 -- The uses of all nodes at once, in one pass over the table: a list with a number for each node, which stops at 2.
--- Example: of `a ##1 b`, nodes 0, 1 and 2, it begins 1 ∷ 1 ∷ 0. 2 stands for every number above 1: 01's refusal 2 asks for 1.
+-- Example: of `a ##1 b`, nodes 0, 1 and 2, it begins 1 ∷ 1 ∷ 0. 2 stands for every number above 1: refusal 2 asks for 1.
 use mathlib.Core.Bool.{Bool, true}
 use mathlib.Core.Path.{_≡_}
 use mathlib.Core.List.{List}
@@ -29,7 +29,7 @@ pub record OperandsWithin (size : ℕ) (v : Node) : Type 0 where
   pub left : uses-p v ≡ true → v .p < size
   pub right : uses-q v ≡ true → v .q < size
 
--- .. of each of count nodes.
+-- The operands of each of count nodes have a place in a list of this size.
 pub record AllOperandsWithin (size : ℕ) (t : List ℕ) (count : ℕ) : Type 0 where
   pub inside : count * 5 ≤ length t
   pub few : count ≤ 4096

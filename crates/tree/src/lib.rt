@@ -1,16 +1,20 @@
-// A table of words read node by node, and its checks: refusals 1, 2 and 3, each with the lowest node (01, "The tree").
+// A table of words read node by node, and its checks: refusals 1, 2 and 3, each with the lowest node (SPECIFICATION, "The tree").
 //
 // Example: the words 1,0,0,0,0, 1,1,0,0,0, 2,0,1,1,1 are three nodes that pass; with 2,0,0,1,1 for the last, node 0 is
 // used twice and node 1 not at all, so that `checked` answers Refused(2, 0).
+use meaning::Part;
+use meaning::Span;
+use meaning::kind;
 ghost use mathlib.Core.Path.{_≡_};
 ghost use mathlib.Core.Bool.{true, false};
 ghost use Prim.Native.Nat.{_+_, _*_, _≤_, _<_};
-ghost use lib.ListN.{length, replicate};
+ghost use lib.ListN.{length};
 ghost use Rattle.words.specs.Choice.{pick};
-ghost use Rattle.meaning.specs.Tree.{node-at, below};
-ghost use Rattle.meaning.specs.Refusals.{lowest-failing, formed-node, uses-p, uses-q, used-once, range-node, table};
+ghost use Rattle.meaning.specs.Tree.{node-at};
+ghost use Rattle.meaning.specs.Kinds.{row, columns, is-operand, is-atom, limit, formed-span, in-order};
+ghost use Rattle.meaning.specs.Refusals.{lowest-failing, formed-node, range-node, table};
 ghost use Rattle.meaning.specs.declared.Table.the-variants.{Formed};
-ghost use Rattle.tree.specs.Checks.{formed-at, ranged-at, counted-once, AllFormed};
+ghost use Rattle.tree.specs.Checks.{passes, Checkable};
 ghost use Rattle.tree.specs.Uses.{use-if, use-operands, used-by, OperandsWithin, AllOperandsWithin};
 
 // The five words of node n.
@@ -28,7 +32,7 @@ pub fn read(t: &[u32], n: u32) -> meaning::Node
     }
 }
 
-// 01: "$ is 4,294,967,295, as max only".
+// SPECIFICATION, "The tree": "4,294,967,295 stands for $, no upper end, and only max may hold it".
 pub const UNLIMITED: u32 = 4294967295;
 
 // Whether two tests hold, the second looked at where the first does.
@@ -41,125 +45,112 @@ pub fn both(first: bool, second: bool) -> bool
     false
 }
 
-// 1, of node n: "unknown kind, unused word filled, atom too large, operand not lower, min is $".
+fn row(p: Part, q: Part, span: Span) -> meaning::Columns
+    ensures { λ r. ⌜ r ≡ row p q span ⌝ }
+{
+    meaning::Columns { p, q, span }
+}
+
+// The specification's table of kinds: what p and q are, and what min and max are. A kind that the specification does not know uses no word.
+pub fn columns(kind: u32) -> meaning::Columns
+    ensures { λ r. ⌜ r ≡ columns kind ⌝ }
+{
+    if kind == kind::ATOM {
+        return row(Part::Atom, Part::Unused, Span::Unused);
+    }
+    if kind == kind::DELAY {
+        return row(Part::Operand, Part::Operand, Span::Range);
+    }
+    if kind == kind::CONSECUTIVE {
+        return row(Part::Operand, Part::Unused, Span::Range);
+    }
+    if kind == kind::GOTO {
+        return row(Part::Operand, Part::Unused, Span::Count);
+    }
+    if kind == kind::NONCONSECUTIVE {
+        return row(Part::Operand, Part::Unused, Span::Count);
+    }
+    if kind == kind::THROUGHOUT {
+        return row(Part::Atom, Part::Operand, Span::Unused);
+    }
+    if kind == kind::WITHIN {
+        return row(Part::Operand, Part::Operand, Span::Unused);
+    }
+    row(Part::Unused, Part::Unused, Span::Unused)
+}
+
+// What p or q of node n stays below: an unused word is 0, an operand is lower, an atom is small.
+fn limit(n: u32, part: Part) -> u32
+    ensures { λ r. ⌜ r ≡ limit n part ⌝ }
+{
+    match part {
+        Part::Unused => 1,
+        Part::Operand => n,
+        Part::Atom => 65536,
+    }
+}
+
+// Whether min and max may hold these words: "unused word filled", "min is $".
+fn formed_span(span: Span, min: u32, max: u32) -> bool
+    ensures { λ r. ⌜ r ≡ formed-span span min max ⌝ }
+{
+    match span {
+        Span::Unused => both(min == 0, max == 0),
+        Span::Range => min < UNLIMITED,
+        Span::Count => min < UNLIMITED,
+    }
+}
+
+// 1, of node n: "an unknown kind, a word that its kind does not use and that is not 0, an atom or condition above 65,535, ..".
 fn formed_node(n: u32, v: meaning::Node) -> bool
     ensures { λ r. ⌜ r ≡ formed-node n v ⌝ }
 {
-    if v.kind == 1 {
-        return both(v.p < 65536, both(v.q == 0, both(v.min == 0, v.max == 0)));
-    }
-    if v.kind == 2 {
-        return both(v.p < n, both(v.q < n, v.min < UNLIMITED));
-    }
-    if v.kind == 6 {
-        return both(v.p < 65536, both(v.q < n, both(v.min == 0, v.max == 0)));
-    }
-    if v.kind == 7 {
-        return both(v.p < n, both(v.q < n, both(v.min == 0, v.max == 0)));
-    }
-    if v.kind < 3 {
-        return false;
-    }
-    if 5 < v.kind {
-        return false;
-    }
-    both(v.p < n, both(v.q == 0, v.min < UNLIMITED))
+    let is = columns(v.kind);
+    let p = is.p;
+    let q = is.q;
+    let span = is.span;
+    let known = both(kind::ATOM <= v.kind, v.kind <= kind::WITHIN);
+    let rest = both(v.q < limit(n, q), formed_span(span, v.min, v.max));
+    both(known, both(v.p < limit(n, p), rest))
 }
 
-// 3: "kind 2 or 3 with min above max; kind 4 or 5 with min not max, or 0".
+// Whether a range is in order, and a count exact and from 1.
+fn in_order(span: Span, min: u32, max: u32) -> bool
+    ensures { λ r. ⌜ r ≡ in-order span min max ⌝ }
+{
+    match span {
+        Span::Unused => true,
+        Span::Range => min <= max,
+        Span::Count => both(min == max, 0 < min),
+    }
+}
+
+// 3: "a delay or [*] has a min above its max; a [->] or [=] has a min other than its max, or 0".
 fn range_node(v: meaning::Node) -> bool
     ensures { λ r. ⌜ r ≡ range-node v ⌝ }
 {
-    if v.kind == 2 {
-        return v.min <= v.max;
-    }
-    if v.kind == 3 {
-        return v.min <= v.max;
-    }
-    if v.kind < 4 {
-        return true;
-    }
-    if 5 < v.kind {
-        return true;
-    }
-    if v.min == v.max {
-        return 0 < v.min;
-    }
-    false
+    let span = columns(v.kind).span;
+    in_order(span, v.min, v.max)
 }
 
-// 1, of node n of the table.
-fn formed_at(t: &[u32], n: u32) -> bool
-    requires { ⌜ (n * 5 + 5 ≤ length (now t)) × (n < 4096) ⌝ }
-    ensures { λ r. ⌜ r ≡ formed-at (now (t .entry)) n ⌝ }
+fn is_operand(part: Part) -> bool
+    ensures { λ r. ⌜ r ≡ is-operand part ⌝ }
 {
-    let v = read(t, n);
-    formed_node(n, v)
+    match part {
+        Part::Unused => false,
+        Part::Operand => true,
+        Part::Atom => false,
+    }
 }
 
-// 3, of node n of the table.
-fn ranged_at(t: &[u32], n: u32) -> bool
-    requires { ⌜ (n * 5 + 5 ≤ length (now t)) × (n < 4096) ⌝ }
-    ensures { λ r. ⌜ r ≡ ranged-at (now (t .entry)) n ⌝ }
+pub fn is_atom(part: Part) -> bool
+    ensures { λ r. ⌜ r ≡ is-atom part ⌝ }
 {
-    let v = read(t, n);
-    range_node(v)
-}
-
-// The lowest node that 1 refuses.
-fn lowest_unformed(t: &[u32], count: u32) -> meaning::Table
-    requires { ⌜ (count * 5 ≤ length (now t)) × (count ≤ 4096) ⌝ }
-    ensures { λ r. ⌜ r ≡ lowest-failing 1 (formed-at (now (t .entry))) count 0 Formed ⌝ }
-{
-    let mut n = 0;
-    while n < count {
-        if !formed_at(t, n) {
-            return meaning::Table::Refused(1, n);
-        }
-        n += 1;
+    match part {
+        Part::Unused => false,
+        Part::Operand => false,
+        Part::Atom => true,
     }
-    meaning::Table::Formed
-}
-
-// The lowest node that 3 refuses.
-fn lowest_unranged(t: &[u32], count: u32) -> meaning::Table
-    requires { ⌜ (count * 5 ≤ length (now t)) × (count ≤ 4096) ⌝ }
-    ensures { λ r. ⌜ r ≡ lowest-failing 3 (ranged-at (now (t .entry))) count 0 Formed ⌝ }
-{
-    let mut n = 0;
-    while n < count {
-        if !ranged_at(t, n) {
-            return meaning::Table::Refused(3, n);
-        }
-        n += 1;
-    }
-    meaning::Table::Formed
-}
-
-// Whether p is an operand.
-fn uses_p(v: meaning::Node) -> bool
-    ensures { λ r. ⌜ r ≡ uses-p v ⌝ }
-{
-    if v.kind == 7 {
-        return true;
-    }
-    if v.kind < 2 {
-        return false;
-    }
-    v.kind < 6
-}
-
-// Whether q is an operand.
-fn uses_q(v: meaning::Node) -> bool
-    ensures { λ r. ⌜ r ≡ uses-q v ⌝ }
-{
-    if v.kind == 2 {
-        return true;
-    }
-    if v.kind == 6 {
-        return true;
-    }
-    v.kind == 7
 }
 
 // One use more of node k, if it is one; 2 stands for any number above 1.
@@ -183,8 +174,11 @@ fn use_operands(used: &mut [u8], v: meaning::Node)
     requires { ⌜ OperandsWithin (length (now used)) v ⌝ }
     ensures { λ _. ⌜ now (used .exit) ≡ use-operands (now (used .entry)) v ⌝ }
 {
-    use_if(used, uses_p(v), v.p);
-    use_if(used, uses_q(v), v.q);
+    let is = columns(v.kind);
+    let p = is.p;
+    let q = is.q;
+    use_if(used, is_operand(p), v.p);
+    use_if(used, is_operand(q), v.q);
 }
 
 // The uses that count nodes make, one byte for each node used.
@@ -200,52 +194,55 @@ fn count_uses(used: &mut [u8], t: &[u32], count: u32)
     }
 }
 
-// 2, of node k, once all uses are counted.
-fn counted_once(used: &[u8], k: u32) -> bool
-    requires { ⌜ k < length (now used) ⌝ }
-    ensures { λ r. ⌜ r ≡ counted-once (now (used .entry)) k ⌝ }
+// Whether node n passes the refusal with this number, 1, 2 or 3: the second by its uses, once all are counted.
+fn passes(refusal: u32, t: &[u32], used: &[u8], n: u32) -> bool
+    requires { ⌜ (n * 5 + 5 ≤ length (now t)) × (n < 4096) × (n < length (now used)) ⌝ }
+    ensures { λ r. ⌜ r ≡ passes refusal (now (t .entry)) (now (used .entry)) n ⌝ }
 {
-    used[k as usize] == 1
+    if refusal == 2 {
+        return used[n as usize] == 1;
+    }
+    let v = read(t, n);
+    if refusal == 1 {
+        return formed_node(n, v);
+    }
+    range_node(v)
 }
 
-// The lowest of count nodes whose uses are not one.
-fn lowest_not_once(used: &[u8], count: u32) -> meaning::Table
-    requires { ⌜ count ≤ length (now used) ⌝ }
-    ensures { λ r. ⌜ r ≡ lowest-failing 2 (counted-once (now (used .entry))) count 0 Formed ⌝ }
+// The lowest of count nodes that the refusal falls on.
+fn lowest_failing(refusal: u32, t: &[u32], used: &[u8], count: u32) -> meaning::Table
+    requires { ⌜ (count * 5 ≤ length (now t)) × (count ≤ 4096) × (count ≤ length (now used)) ⌝ }
+    ensures { λ r. ⌜ r ≡ lowest-failing refusal (passes refusal (now (t .entry)) (now (used .entry))) count 0 Formed ⌝ }
 {
-    let mut k = 0;
-    while k < count {
-        if !counted_once(used, k) {
-            return meaning::Table::Refused(2, k);
+    let mut n = 0;
+    while n < count {
+        if !passes(refusal, t, used, n) {
+            return meaning::Table::Refused(refusal, n);
         }
-        k += 1;
+        n += 1;
     }
     meaning::Table::Formed
 }
 
-// The lowest node but the root that 2 refuses, by uses counted in cleared bytes.
-fn lowest_misused_in(used: &mut [u8], t: &[u32], count: u32) -> meaning::Table
-    requires { ⌜ AllFormed (now t) count × (count ≤ length (now used)) × (now used ≡ replicate (length (now used)) 0) ⌝ }
-    ensures { λ r. ⌜ r ≡ lowest-failing 2 (used-once (now (t .entry))) (below count) 0 Formed ⌝ }
+// 1, 2 and 3 over the count nodes of a table, in this order, with uses counted in cleared bytes.
+fn checked_in(used: &mut [u8], t: &[u32], count: u32) -> meaning::Table
+    requires { ⌜ Checkable (now t) (now used) count ⌝ }
+    ensures { λ r. ⌜ r ≡ table (now (t .entry)) ⌝ }
 {
+    let formed = lowest_failing(1, t, used, count);
+    let meaning::Table::Formed = formed else {
+        return formed;
+    };
     count_uses(used, t, count);
-    lowest_not_once(used, count - 1)
+    let once = lowest_failing(2, t, used, count - 1);
+    let meaning::Table::Formed = once else {
+        return once;
+    };
+    lowest_failing(3, t, used, count)
 }
 
-// .. in bytes of its own. Few trees need as many as a tree may have nodes, and these take long to clear beside a small tree.
-fn lowest_misused(t: &[u32], count: u32) -> meaning::Table
-    requires { ⌜ AllFormed (now t) count ⌝ }
-    ensures { λ r. ⌜ r ≡ lowest-failing 2 (used-once (now (t .entry))) (below count) 0 Formed ⌝ }
-{
-    if count <= 64 {
-        let mut used = [0u8; 64];
-        return lowest_misused_in(&mut used, t, count);
-    }
-    let mut used = [0u8; 4096];
-    lowest_misused_in(&mut used, t, count)
-}
-
-// 1, 2 and 3 over the whole table, in this order.
+// 1, 2 and 3 over the whole table. Few trees need as many bytes as a tree may have nodes, and these take long to clear beside a small
+// tree.
 pub fn checked(t: &[u32]) -> meaning::Table
     ensures { λ r. ⌜ r ≡ table (now (t .entry)) ⌝ }
 {
@@ -259,13 +256,10 @@ pub fn checked(t: &[u32]) -> meaning::Table
         return meaning::Table::Refused(1, 0);
     }
     let count = (t.len() / 5) as u32;
-    let formed = lowest_unformed(t, count);
-    let meaning::Table::Formed = formed else {
-        return formed;
-    };
-    let once = lowest_misused(t, count);
-    let meaning::Table::Formed = once else {
-        return once;
-    };
-    lowest_unranged(t, count)
+    if count <= 64 {
+        let mut used = [0u8; 64];
+        return checked_in(&mut used, t, count);
+    }
+    let mut used = [0u8; 4096];
+    checked_in(&mut used, t, count)
 }

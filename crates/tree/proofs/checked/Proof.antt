@@ -1,7 +1,6 @@
--- The three searches, one after the other, are the table's checks.
+-- A length that no table has is refused, and any other table checked.
 use Rattle.words.specs.Choice.{tests}
 use Rattle.meaning.specs.Refusals.{table}
-use Rattle.tree.proofs.Checks.{unformed-refused, all-formed, misused-refused, ranges-left}
 use borrow.Author.Needs.{needs}
 use Rattle.tree.proofs.checked.Statement.{statement}
 use Rattle.tree.proofs.checked.Tie as tie
@@ -21,35 +20,23 @@ returns-3 c = search tests depth 9
 cast-count : tie.Need-cast-count
 cast-count c = search needs
 
-lowest-unformed-requires : tie.Need-lowest-unformed-requires
-lowest-unformed-requires c κs = search needs
+slice-aggregate-checked-in : tie.Need-slice-aggregate-checked-in
+slice-aggregate-checked-in c = search needs
 
-enum-told : tie.Need-enum-told
-enum-told c = search needs
-
-enum-told-2 : tie.Need-enum-told-2
-enum-told-2 c = search needs
+checked-in-requires : tie.Need-checked-in-requires
+checked-in-requires c κs = search needs
 
 returns-4 : tie.Need-returns-4
-returns-4 c = search unformed-refused
+returns-4 c = search needs
 
-lowest-misused-requires : tie.Need-lowest-misused-requires
-lowest-misused-requires c κs = search all-formed
+slice-aggregate-checked-in-2 : tie.Need-slice-aggregate-checked-in-2
+slice-aggregate-checked-in-2 c = search needs
 
-enum-told-3 : tie.Need-enum-told-3
-enum-told-3 c = search needs
-
-enum-told-4 : tie.Need-enum-told-4
-enum-told-4 c = search needs
+checked-in-requires-2 : tie.Need-checked-in-requires-2
+checked-in-requires-2 c κs = search needs
 
 returns-5 : tie.Need-returns-5
-returns-5 c = search misused-refused
-
-lowest-unranged-requires : tie.Need-lowest-unranged-requires
-lowest-unranged-requires c κs = search needs
-
-returns-6 : tie.Need-returns-6
-returns-6 c = search ranges-left
+returns-5 c = search needs
 
 pub checked-spec : {M : Type 1} → statement M
 checked-spec =
@@ -59,13 +46,9 @@ checked-spec =
     returns-2
     returns-3
     cast-count
-    lowest-unformed-requires
-    enum-told
-    enum-told-2
+    slice-aggregate-checked-in
+    checked-in-requires
     returns-4
-    lowest-misused-requires
-    enum-told-3
-    enum-told-4
-    returns-5
-    lowest-unranged-requires
-    returns-6)
+    slice-aggregate-checked-in-2
+    checked-in-requires-2
+    returns-5)

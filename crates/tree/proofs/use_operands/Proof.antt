@@ -4,14 +4,17 @@ use borrow.Author.Needs.{needs}
 use Rattle.tree.proofs.use_operands.Statement.{statement}
 use Rattle.tree.proofs.use_operands.Tie as tie
 
-uses-p-requires : tie.Need-uses-p-requires
-uses-p-requires c κs = search needs
+columns-requires : tie.Need-columns-requires
+columns-requires c κs = search needs
+
+is-operand-requires : tie.Need-is-operand-requires
+is-operand-requires c κs = search needs
 
 use-if-requires : tie.Need-use-if-requires
 use-if-requires c κs = search left-within
 
-uses-q-requires : tie.Need-uses-q-requires
-uses-q-requires c κs = search needs
+is-operand-requires-2 : tie.Need-is-operand-requires-2
+is-operand-requires-2 c κs = search needs
 
 use-if-requires-2 : tie.Need-use-if-requires-2
 use-if-requires-2 c κs = search right-within
@@ -26,9 +29,10 @@ pub use-operands-spec : {M : Type 1} → statement M
 use-operands-spec =
     tie.close
     (tie.spec
-    uses-p-requires
+    columns-requires
+    is-operand-requires
     use-if-requires
-    uses-q-requires
+    is-operand-requires-2
     use-if-requires-2
     same-length
     returns)

@@ -1,22 +1,22 @@
--- The loop has found no node below n that 1 refuses.
+-- The loop has found no node below n that the refusal falls on.
 use borrow.Author.Needs.{needs}
 use Prim.Native.Nat.{_-_}
-use Rattle.tree.specs.Checks.{formed-at}
+use Rattle.tree.specs.Checks.{passes}
 use Rattle.tree.proofs.Lowest.{Looking, looking-begins, looking-on, fails-here, none-fails}
-use Rattle.tree.proofs.lowest_unformed.Statement.{statement}
-use Rattle.tree.proofs.lowest_unformed.Tie as tie
+use Rattle.tree.proofs.lowest_failing.Statement.{statement}
+use Rattle.tree.proofs.lowest_failing.Tie as tie
 
 abbrev Inv-loop : tie.InvT-loop
-Inv-loop t count n₀ n = Looking 1 (formed-at t) count n
+Inv-loop refusal t used count n₀ n = Looking refusal (passes refusal t used) count n
 
 abbrev μ-loop : tie.MeasureT-loop
-μ-loop t count n₀ n = count - n
+μ-loop refusal t used count n₀ n = count - n
 
 loop-holds : tie.Need-loop-holds Inv-loop μ-loop
 loop-holds c = search looking-begins
 
-formed-at-requires : tie.Need-formed-at-requires Inv-loop μ-loop
-formed-at-requires c κs = search needs
+passes-requires : tie.Need-passes-requires Inv-loop μ-loop
+passes-requires c κs = search needs
 
 returns : tie.Need-returns Inv-loop μ-loop
 returns c = search fails-here
@@ -33,14 +33,14 @@ loop-again c = search looking-on
 returns-2 : tie.Need-returns-2 Inv-loop μ-loop
 returns-2 c = search none-fails
 
-pub lowest-unformed-spec : {M : Type 1} → statement M
-lowest-unformed-spec =
+pub lowest-failing-spec : {M : Type 1} → statement M
+lowest-failing-spec =
     tie.close
     (tie.spec
     Inv-loop
     μ-loop
     loop-holds
-    formed-at-requires
+    passes-requires
     returns
     add-n
     loop-less

@@ -1,7 +1,7 @@
 -- The check, the count of registers and the depth count as the code meets them, and what a word that fits may be taken to be.
 -- They assume nothing.
 use mathlib.Core.Path.{_≡_, refl, sym, _∙_}
-use mathlib.Core.Bool.{Bool, true, false, not}
+use mathlib.Core.Bool.{Bool, true, false}
 use mathlib.Core.List.{List, [], _∷_, _++_}
 use Prim.Native.Nat.{ℕ, zero, suc, _+_, _-_, _<_, _≤_, max}
 use native.Mathlib.Nat.{add-assoc, add-zero, zero-add, max-zero, zero-max}
@@ -10,11 +10,11 @@ use native.Mathlib.Decide.{decLe}
 use lib.Dec.{T, eqb, leb, ltb, leb→le}
 use lib.ListN.{length, getD, drop, drop-of-length-le, getD-replicate, length-replicate, List·getD-append, replicate}
 use lib.Seq.{getD-drop}
-use borrow.Author.Tests.{eq-eqb, ne-eqb, eqb-true, eqb-false, ltb-true, ltb-false, le-leb, not-true, not-false}
+use borrow.Author.Tests.{eq-eqb, ne-eqb, eqb-true, eqb-false, ltb-true, ltb-false, le-leb}
 use Rattle.words.specs.Choice.{pick, pick-true, pick-false, pick-case}
 use Rattle.words.proofs.Laws.{drop-here}
 use Rattle.words.proofs.Taken.{both-hold, second-holds}
-use Rattle.meaning.specs.Listing.{operation, argument, row, rows, row-of, height, is-store, registers, deepest-from, deepest}
+use Rattle.meaning.specs.Listing.{operation, argument, word, row, rows, row-of, height, is-store, registers, deepest-from, deepest}
 use Rattle.meaning.specs.Check.{argument-fits, operands-fit, word-fits, after-match, check-from, check}
 use Rattle.meaning.specs.declared.Row.{Row}
 use Rattle.meaning.specs.declared.Checked.{Checked}
@@ -84,19 +84,19 @@ pub end-row : (o : ℕ) → 9 ≤ o → o ≤ 14 → row-of o ≡ row 1 0
 unfolding rows
 end-row o h k = rows-in 8 6 (row 1 0) [] refl o h k
 
--- So the row of one operation of a kind is that of each.
-module _ {o : ℕ} {r : Row} where
-  pub a-value-for-each : r ≡ row-of 1 → 1 ≤ o → o < 5 → r ≡ row-of o
-  a-value-for-each e h k = e ∙ value-row 1 (omega arith) (omega arith) ∙ sym (value-row o h (omega arith))
+-- The row of one operation of a kind is that of each, and the kind is told by where the word lies.
+module _ {r : Row} (w : ℕ) where
+  pub a-value-for-each : r ≡ row-of 1 → 1 ≤ operation w → w < word 5 0 → r ≡ row-of (operation w)
+  a-value-for-each e h k = e ∙ value-row 1 (omega arith) (omega arith) ∙ sym (value-row (operation w) h (omega arith))
 
-  pub a-change-for-each : r ≡ row-of 5 → 5 ≤ o → o < 7 → r ≡ row-of o
-  a-change-for-each e h k = e ∙ change-row 5 (omega arith) (omega arith) ∙ sym (change-row o h (omega arith))
+  pub a-change-for-each : r ≡ row-of 5 → word 5 0 ≤ w → w < word 7 0 → r ≡ row-of (operation w)
+  a-change-for-each e h k = e ∙ change-row 5 (omega arith) (omega arith) ∙ sym (change-row (operation w) (omega arith) (omega arith))
 
-  pub a-join-for-each : r ≡ row-of 7 → 7 ≤ o → o < 9 → r ≡ row-of o
-  a-join-for-each e h k = e ∙ join-row 7 (omega arith) (omega arith) ∙ sym (join-row o h (omega arith))
+  pub a-join-for-each : r ≡ row-of 7 → word 7 0 ≤ w → w < word 9 0 → r ≡ row-of (operation w)
+  a-join-for-each e h k = e ∙ join-row 7 (omega arith) (omega arith) ∙ sym (join-row (operation w) (omega arith) (omega arith))
 
-  pub an-end-for-each : r ≡ row-of 9 → 9 ≤ o → o ≤ 14 → r ≡ row-of o
-  an-end-for-each e h k = e ∙ end-row 9 (omega arith) (omega arith) ∙ sym (end-row o h k)
+  pub an-end-for-each : r ≡ row-of 9 → word 9 0 ≤ w → operation w ≤ 14 → r ≡ row-of (operation w)
+  an-end-for-each e h k = e ∙ end-row 9 (omega arith) (omega arith) ∙ sym (end-row (operation w) (omega arith) k)
 
 -- A word raises the stack by one at most.
 pub height-rises-by-one : (h w : ℕ) → height h w ≤ h + 1
@@ -130,39 +130,26 @@ fitting count k h w e =
 
 -- The arguments of a word that fits.
 module _ {count k h w : ℕ} (f : Fitting count k h w) where
-  -- A register that is named is below the count.
-  pub register-below : operation w ≡ 2 → argument w < count
+  -- A register that is named passes both tests: it is below the count, and below the bound of register numbers.
+  register-fits : operation w ≡ 2 → (ltb (argument w) count ≡ true) × (ltb (argument w) 65536 ≡ true)
   unfolding argument-fits
-  register-below q =
+  register-fits q =
       let n : operation w ≡ 1 → ⊥ = λ z. omega arith in
-      ltb-true _ _ (both-hold _ (sym (pick-false _ _ (ne-eqb _ _ n) ∙ pick-true _ _ (eq-eqb _ _ q)) ∙ f .suits) .0)
+      both-hold _ (sym (pick-false _ _ (ne-eqb _ _ n) ∙ pick-true _ _ (eq-eqb _ _ q)) ∙ f .suits)
+
+  pub register-below : operation w ≡ 2 → argument w < count
+  register-below q = ltb-true _ _ (register-fits q .0)
+
+  pub register-small : operation w ≡ 2 → argument w < 65536
+  register-small q = ltb-true _ _ (register-fits q .1)
 
 -- The needs of the leaves, where a callee's result stands for a definition.
 
--- The tests of an argument, with the answer of `is_store` among them.
-pub by-store : {r b : Bool} (count k w : ℕ) → b ≡ is-store w
-    → r ≡ pick (eqb (operation w) 1) (ltb (argument w) 65536) (pick (eqb (operation w) 2) (pick (ltb (argument w) count) (ltb (argument w) 65536) false)
-    (pick b (pick (eqb (argument w) k) (ltb (argument w) 65536) false) (eqb (argument w) 0)))
-    → r ≡ argument-fits count k w
-unfolding argument-fits
-by-store count k w e q = rw (← e) q
-
--- The tests of the height, with the row that `row` answers.
-pub by-row : {r : Bool} {v : Row} (h w : ℕ) → v ≡ row-of (operation w) → r ≡ pick (ltb h (v .takes)) false (pick (leb 9 (operation w)) (eqb h 1) true) → r ≡ operands-fit h w
-unfolding operands-fit
-by-row h w e q = rw (← e) q
-
--- The tests of a word, with the answer of `argument_fits` among them.
-pub by-argument : {r b : Bool} (count k h w : ℕ) → b ≡ argument-fits count k w
-    → r ≡ pick (eqb (operation w) 0) false (pick (ltb 14 (operation w)) false (pick b (operands-fit h w) false)) → r ≡ word-fits count k h w
-unfolding word-fits
-by-argument count k h w e q = rw (← e) q
-
--- One store more.
+-- A store counts as one store more.
 pub store-more : {b : Bool} (n w : ℕ) → b ≡ is-store w → b ≡ true → n + 1 ≡ n + pick (is-store w) 1 0
 store-more n w e q = rw (pick-true {A = ℕ} 1 0 (sym e ∙ q)) refl
 
--- No store more.
+-- A word that is no store counts as none more.
 pub store-none : {b : Bool} (n w : ℕ) → b ≡ is-store w → b ≡ false → n ≡ n + pick (is-store w) 1 0
 store-none n w e q = rw (pick-false {A = ℕ} 1 0 (sym e ∙ q)) (sym (add-zero n))
 
@@ -174,124 +161,71 @@ takes-found o e q = rw e q
 pub height-by-row : {v : Row} {r : ℕ} (h w : ℕ) → v ≡ row-of (operation w) → r ≡ h - v .takes + v .leaves → r ≡ height h w
 height-by-row h w e q = q ∙ rw e refl
 
--- The registers counted up to the place i.
-pub record Counting (s : List ℕ) (stores i : ℕ) : Type 0 where
-  pub inside : i ≤ length s
-  pub low : stores ≤ i
-  pub rest : registers s ≡ stores + registers (drop i s)
+-- The registers counted up to the place p.
+pub record Counting (ws : List ℕ) (stores p : ℕ) : Type 0 where
+  pub inside : p ≤ length ws
+  pub low : stores ≤ p
+  pub rest : registers ws ≡ stores + registers (drop p ws)
 
--- Before the first word none is counted.
-pub counting-begins : (s : List ℕ) → Counting s 0 0
-counting-begins s = record { inside = omega arith; low = omega arith; rest = sym (zero-add (registers s)) }
+-- Before the first word no store is counted.
+pub counting-begins : (ws : List ℕ) → Counting ws 0 0
+counting-begins ws = record { inside = omega arith; low = omega arith; rest = sym (zero-add (registers ws)) }
 
-module _ {s : List ℕ} {stores i : ℕ} (g : Counting s stores i) where
-  -- A word more.
-  pub counting-on : {n : ℕ} → i < length s → n ≡ stores + pick (is-store (getD s i 0)) 1 0 → Counting s n (i + 1)
+module _ {ws : List ℕ} {stores p : ℕ} (g : Counting ws stores p) where
+  -- A word more is counted.
+  pub counting-on : {n : ℕ} → p < length ws → n ≡ stores + pick (is-store (getD ws p 0)) 1 0 → Counting ws n (p + 1)
   unfolding registers
   counting-on {n} h e = record {
     inside = omega arith;
-    low = omega (arith, g .low, store-counts-one (getD s i 0));
-    rest = g .rest ∙ rw (drop-here s i h, e) (sym (add-assoc stores _ _));
+    low = omega (arith, g .low, store-counts-one (getD ws p 0));
+    rest = g .rest ∙ rw (drop-here ws p h, e) (sym (add-assoc stores _ _));
   }
 
-  -- At the end all are counted.
-  pub counting-ends : length s ≤ i → stores ≡ registers s
+  -- At the end all stores are counted.
+  pub counting-ends : length ws ≤ p → stores ≡ registers ws
   unfolding registers
-  counting-ends h = sym (g .rest ∙ rw (drop-of-length-le s h) (add-zero stores))
-
--- The words before the place i fit.
-pub record Checking (s : List ℕ) (stores h i : ℕ) : Type 0 where
-  pub inside : i ≤ length s
-  pub few : stores ≤ i
-  pub low : h ≤ i
-  pub rest : check s ≡ check-from (registers s) (drop i s) i stores h
-
--- Before the first word nothing is on the stack.
-pub checking-begins : (s : List ℕ) → Checking s 0 0 0
-unfolding check
-checking-begins s = record { inside = omega arith; few = omega arith; low = omega arith; rest = refl }
-
-module _ {s : List ℕ} {stores h i count : ℕ} (g : Checking s stores h i) (c : count ≡ registers s) where
-  -- The check from the place i on, with its word apart.
-  opened : i < length s → check s ≡ pick (word-fits count stores h (getD s i 0)) (pick (eqb (operation (getD s i 0)) 14) (after-match (i + 1) (drop (i + 1) s))
-      (check-from count (drop (i + 1) s) (i + 1) (stores + pick (is-store (getD s i 0)) 1 0) (height h (getD s i 0)))) (Faulty i)
-  unfolding check-from
-  opened k = g .rest ∙ rw (drop-here s i k, c) refl
-
-  module _ {b : Bool} (k : i < length s) (e : b ≡ word-fits count stores h (getD s i 0)) where
-    -- The word does not fit: it is the first faulty one.
-    pub faulty-here : not b ≡ true → Faulty i ≡ check s
-    faulty-here q = sym (opened k ∙ pick-false _ _ (sym e ∙ not-true b q))
-
-    -- A word follows the match: it is the first faulty one.
-    pub faulty-past : not b ≡ false → operation (getD s i 0) ≡ 14 → i + 1 < length s → Faulty (i + 1) ≡ check s
-    unfolding after-match
-    faulty-past q o m = sym (opened k ∙ pick-true _ _ (sym e ∙ not-false b q) ∙ pick-true _ _ (eq-eqb _ _ o) ∙ rw (drop-here s (i + 1) m) refl)
-
-    -- The match is the last word.
-    pub described-there : not b ≡ false → operation (getD s i 0) ≡ 14 → length s ≤ i + 1 → Described ≡ check s
-    unfolding after-match
-    described-there q o m = sym (opened k ∙ pick-true _ _ (sym e ∙ not-false b q) ∙ pick-true _ _ (eq-eqb _ _ o) ∙ rw (drop-of-length-le s m) refl)
-
-    -- A word that fits finds what it takes.
-    pub fits-here : not b ≡ false → OperandFound h (getD s i 0)
-    fits-here q = fitting count stores h (getD s i 0) (sym e ∙ not-false b q) .operand
-
-    -- A word that fits and is not the match.
-    pub checking-on : {n m : ℕ} → not b ≡ false → (operation (getD s i 0) ≡ 14 → ⊥)
-        → n ≡ stores + pick (is-store (getD s i 0)) 1 0 → m ≡ height h (getD s i 0) → Checking s n m (i + 1)
-    checking-on q o u v = record {
-      inside = omega arith;
-      few = omega (arith, g .few, store-counts-one (getD s i 0));
-      low = omega (arith, g .low, height-rises-by-one h (getD s i 0));
-      rest = opened k ∙ pick-true _ _ (sym e ∙ not-false b q) ∙ pick-false _ _ (ne-eqb _ _ o) ∙ rw (c, u, v) refl;
-    }
-
--- The words end before a match: the word count is the place.
-pub ends-early : {s : List ℕ} {stores h i : ℕ} → Checking s stores h i → length s ≤ i → Faulty i ≡ check s
-unfolding check-from
-ends-early {s} g m = sym (g .rest ∙ rw (drop-of-length-le s m) refl)
+  counting-ends h = sym (g .rest ∙ rw (drop-of-length-le ws h) (add-zero stores))
 
 -- The largest of three, in either order.
 pub max-assoc : (a b c : ℕ) → max (max a b) c ≡ max a (max b c)
 max-assoc a b c = omega arith
 
--- The words before the place i are counted.
-pub record Deepening (s : List ℕ) (deepest-yet h i : ℕ) : Type 0 where
-  pub inside : i ≤ length s
-  pub low : h ≤ i
-  pub found : OperandsFound h (drop i s)
-  pub rest : deepest s ≡ max deepest-yet (deepest-from h (drop i s))
+-- The words before the place p are counted.
+pub record Deepening (ws : List ℕ) (deepest-yet h p : ℕ) : Type 0 where
+  pub inside : p ≤ length ws
+  pub low : h ≤ p
+  pub found : OperandsFound h (drop p ws)
+  pub rest : deepest ws ≡ max deepest-yet (deepest-from h (drop p ws))
 
 -- Before the first word the deepest is 0.
-pub deepening-begins : {s : List ℕ} → OperandsFound 0 s → Deepening s 0 0 0
+pub deepening-begins : {ws : List ℕ} → OperandsFound 0 ws → Deepening ws 0 0 0
 unfolding deepest
-deepening-begins {s} f = record { inside = omega arith; low = omega arith; found = f; rest = sym (zero-max (deepest-from 0 s)) }
+deepening-begins {ws} f = record { inside = omega arith; low = omega arith; found = f; rest = sym (zero-max (deepest-from 0 ws)) }
 
-module _ {s : List ℕ} {d h i : ℕ} (g : Deepening s d h i) (k : i < length s) where
-  -- What the words from the place i on find, with its word apart.
-  found-here : OperandsFound h (getD s i 0 ∷ drop (i + 1) s)
-  found-here = rw (drop-here s i k) at (g .found)
+module _ {ws : List ℕ} {d h p : ℕ} (g : Deepening ws d h p) (k : p < length ws) where
+  -- What the words from the place p on find, with its word apart.
+  found-here : OperandsFound h (getD ws p 0 ∷ drop (p + 1) ws)
+  found-here = rw (drop-here ws p k) at (g .found)
 
   -- The word finds what it takes.
-  pub operand-found : OperandFound h (getD s i 0)
+  pub operand-found : OperandFound h (getD ws p 0)
   unfolding OperandsFound
   operand-found = found-here .0
 
-  -- A word more.
-  pub deepening-on : {n m : ℕ} → m ≡ height h (getD s i 0) → n ≡ max d m → Deepening s n m (i + 1)
+  -- A word more is counted, with the height after it.
+  pub deepening-on : {n m : ℕ} → m ≡ height h (getD ws p 0) → n ≡ max d m → Deepening ws n m (p + 1)
   unfolding OperandsFound deepest-from
   deepening-on u v = record {
     inside = omega arith;
-    low = omega (arith, g .low, height-rises-by-one h (getD s i 0));
+    low = omega (arith, g .low, height-rises-by-one h (getD ws p 0));
     found = rw u (found-here .1);
-    rest = g .rest ∙ rw (drop-here s i k, v, u) (sym (max-assoc d _ _));
+    rest = g .rest ∙ rw (drop-here ws p k, v, u) (sym (max-assoc d _ _));
   }
 
 -- At the end the deepest of all is known.
-pub deepening-ends : {s : List ℕ} {d h i : ℕ} → Deepening s d h i → length s ≤ i → d ≡ deepest s
+pub deepening-ends : {ws : List ℕ} {d h p : ℕ} → Deepening ws d h p → length ws ≤ p → d ≡ deepest ws
 unfolding deepest-from
-deepening-ends {s} {d} g m = sym (g .rest ∙ rw (drop-of-length-le s m) (max-zero d))
+deepening-ends {ws} {d} g m = sym (g .rest ∙ rw (drop-of-length-le ws m) (max-zero d))
 
 -- A fault is not described, so that the test before it holds.
 fits-else-faulty : (b : Bool) {x : Checked} (place : ℕ) → pick b x (Faulty place) ≡ Described → (b ≡ true) × (x ≡ Described)
@@ -336,7 +270,7 @@ operands-found-from count (w ∷ ws) place k h d =
       ],
     )
 
--- So `deepest` may be asked of it.
+-- `deepest` may be asked of a described listing.
 pub described-operands-found : (ws : List ℕ) → check ws ≡ Described → OperandsFound 0 ws
 unfolding check
 described-operands-found ws d = operands-found-from (registers ws) ws 0 0 0 d

@@ -4,13 +4,13 @@ use mathlib.Core.List.{List, [], _∷_}
 use Prim.Native.Nat.{ℕ, _≤_}
 use Rattle.meaning.specs.Listing.{operation, row-of, height}
 
--- One such word at height h.
+-- One word that finds what it takes, at height h.
 pub record OperandFound (h w : ℕ) : Type 0 where
   pub known : 1 ≤ operation w
   pub last : operation w ≤ 14
   pub found : row-of (operation w) .takes ≤ h
 
--- Such words from height h on.
+-- Words that find what they take, from height h on.
 unfoldable pub OperandsFound : ℕ → List ℕ → Type 0
 OperandsFound h [] = Unit {0}
 OperandsFound h (w ∷ ws) = OperandFound h w × OperandsFound (height h w) ws

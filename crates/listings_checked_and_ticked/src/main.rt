@@ -1,49 +1,50 @@
 // Runs listings, good and faulty, and writes what the check and the tick answer and what the lent slices hold afterwards;
-// the file `stdout` has what 01 says to each. A line for each case: `next` holds 7s and the stack 9s before the tick, so that a
+// the file `stdout` has what the specification says to each. A line for each case: `next` holds 7s and the stack 9s before the tick, so that a
 // refusal shows 7s and 9s, and a tick shows the registers' new values with 7s past them, and a stack of zeros.
 //
 // Example: `r0 match seq0: faulty 2, refused 21 2, next 777, stack 99`.
+use meaning::word;
 
-// 01's tokens as words: operation times 16,777,216 plus argument.
-const A0: u32 = 1 * 16777216;
+// The listing's tokens as words.
+const A0: u32 = word::ATOM;
 
-const A1: u32 = 1 * 16777216 + 1;
+const A1: u32 = word::ATOM + 1;
 
-const R0: u32 = 2 * 16777216;
+const R0: u32 = word::REGISTER;
 
-const R1: u32 = 2 * 16777216 + 1;
+const R1: u32 = word::REGISTER + 1;
 
-const R2: u32 = 2 * 16777216 + 2;
+const R2: u32 = word::REGISTER + 2;
 
-const R3: u32 = 2 * 16777216 + 3;
+const R3: u32 = word::REGISTER + 3;
 
-const R4: u32 = 2 * 16777216 + 4;
+const R4: u32 = word::REGISTER + 4;
 
-const ZERO: u32 = 3 * 16777216;
+const ZERO: u32 = word::ZERO;
 
-const ONE: u32 = 4 * 16777216;
+const ONE: u32 = word::ONE;
 
-const ANY: u32 = 5 * 16777216;
+const ANY: u32 = word::ANY;
 
-const NOT: u32 = 6 * 16777216;
+const NOT: u32 = word::NOT;
 
-const AND: u32 = 7 * 16777216;
+const AND: u32 = word::AND;
 
-const OR: u32 = 8 * 16777216;
+const OR: u32 = word::OR;
 
-const SEQ0: u32 = 9 * 16777216;
+const SEQ0: u32 = word::SEQ;
 
-const SEQ1: u32 = 9 * 16777216 + 1;
+const SEQ1: u32 = word::SEQ + 1;
 
-const ARM1: u32 = 10 * 16777216 + 1;
+const ARM1: u32 = word::ARM + 1;
 
-const GTO2: u32 = 11 * 16777216 + 2;
+const GTO2: u32 = word::GTO + 2;
 
-const NCX3: u32 = 12 * 16777216 + 3;
+const NCX3: u32 = word::NCX + 3;
 
-const CRL4: u32 = 13 * 16777216 + 4;
+const CRL4: u32 = word::CRL + 4;
 
-const MATCH: u32 = 14 * 16777216;
+const MATCH: u32 = word::MATCH;
 
 fn say_byte(byte: u8) {
     io::print_decimal(1, byte as u64);

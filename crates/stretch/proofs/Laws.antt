@@ -85,7 +85,7 @@ module _ {listing : List ℕ} {place here : ℕ} (g : Passing listing place here
   pub passing-stops : {b : Bool} → here < length listing → b ≡ is-store (getD listing here 0) → b ≡ true → here + 1 ≡ place + length (assignment-at listing place)
   passing-stops h b e = sym (passing-opened h ∙ rw (pick-true [] (assignment (drop (here + 1) listing)) (sym b ∙ e)) (omega arith))
 
-  -- Where the listing ends it is over too.
+  -- Where the listing ends the assignment is over too.
   pub passing-ends : length listing ≤ here → here ≡ place + length (assignment-at listing place)
   unfolding assignment-at assignment
   passing-ends h = sym (g .rest ∙ rw (drop-of-length-le listing h) (omega arith))
@@ -97,7 +97,7 @@ assignment-is-front [] = refl
 assignment-is-front (w ∷ ws) =
     ap (λ (xs : List ℕ). w ∷ xs) (pick-case (λ (xs : List ℕ). take (length xs) ws ≡ xs) (is-store w) (λ _. refl) (λ _. assignment-is-front ws))
 
--- So it has no more words than they are.
+-- An assignment has no more words than it is taken from.
 assignment-is-no-longer : (ws : List ℕ) → length (assignment ws) ≤ length ws
 assignment-is-no-longer ws = omega (arith, ap length (assignment-is-front ws), length-take (length (assignment ws)) ws)
 
@@ -173,7 +173,7 @@ module _ {listing : List ℕ} {r at : ℕ} (g : Walking listing r at) where
     unfolding another-at
     passed = let t = second-holds (drives (drop at listing) r) e in (t .0, ltb-true _ _ (t .1))
 
-    -- The walk goes on behind it.
+    -- The walk goes on behind the assignment.
     pub walking-on : Walking listing r (at + length (assignment-at listing at))
     unfolding assignment-at
     walking-on = record {
@@ -181,7 +181,7 @@ module _ {listing : List ℕ} {r at : ℕ} (g : Walking listing r at) where
       rest = g .rest ∙ not-driven (drop at listing) [] r (passed .0) ∙ ap (λ (ws : List ℕ). stretch-from [] ws r) (drop-drop (length (assignment (drop at listing))) at listing);
     }
 
-    -- There it has fewer words left.
+    -- Behind the assignment the walk has fewer words left.
     pub walking-nearer : length listing - (at + length (assignment-at listing at)) < length listing - at
     unfolding assignment-at
     walking-nearer =

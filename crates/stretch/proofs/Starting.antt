@@ -70,7 +70,7 @@ module _ {listing : List ℕ} {r here : ℕ} (g : Starting listing r here) where
         (drop-drop (length (assignment (drop here listing))) here listing);
   })
 
-  -- There it has fewer words left.
+  -- Behind the assignment the walk has fewer words left.
   pub starting-nearer : {b : Bool} {end : ℕ} → b ≡ another-at listing here r → b ≡ true → end ≡ here + length (assignment-at listing here)
       → length listing - end < length listing - here
   starting-nearer b e k = rw k (walking-nearer (g .walking) (sym b ∙ e))
@@ -83,7 +83,7 @@ module _ {listing : List ℕ} {r here : ℕ} (g : Starting listing r here) where
       (λ d. sym (g .rest ∙ started (drop here listing) here here r d))
       (λ l. absurd (omega (arith, ltb-false here (length listing) l)))
 
-  -- It stops at the end, where no assignment of the register was found.
+  -- The walk stops at the listing's end, where no assignment of the register was found.
   pub starting-ends : length listing ≤ here → 0 ≡ start-from 0 0 listing r
   unfolding start-from
   starting-ends h = sym (g .rest ∙ rw (drop-of-length-le listing h) refl)
@@ -93,7 +93,7 @@ pub start-described : (listing : List ℕ) (r : ℕ) {c : Checked} {place : ℕ}
 unfolding stretch-start start-if
 start-described listing r e d p = rw (← e, d) p
 
--- In a faulty listing it is 0.
+-- In a faulty listing the start is 0.
 pub start-faulty : (listing : List ℕ) (r : ℕ) {c : Checked} {place : ℕ} → c ≡ check listing → c ≡ Faulty place → 0 ≡ stretch-start listing r
 unfolding stretch-start start-if
 start-faulty listing r e f = rw (← e, f) refl

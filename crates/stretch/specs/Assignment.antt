@@ -1,5 +1,5 @@
--- A listing as a row of assignments, each the words of an expression and the store that ends it (01, "The listing":
--- "Each ends in its store"). Example: a0 any seq0 r0 a1 any and match has the assignment a0 any seq0 at the place 0; at the
+-- A listing as a row of assignments, each the words of an expression and the store that ends it (SPECIFICATION, "The listing":
+-- "an expression and the store that ends it"). Example: a0 any seq0 r0 a1 any and match has the assignment a0 any seq0 at the place 0; at the
 -- place 3 stands the last, which ends in the match and drives no register.
 use mathlib.Core.Bool.{Bool, false}
 use mathlib.Core.List.{List, [], _∷_}

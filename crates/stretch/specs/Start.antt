@@ -1,4 +1,4 @@
--- Where the stretch of a register begins (01, Stretch), for a caller who takes the place of its first word and not the part.
+-- Where the stretch of a register begins (SPECIFICATION, "Stretch"), for a caller who takes the place of its first word and not the part.
 -- Example: in a0 any seq0 a1 any seq1 r1 match the stretch of register 1 begins at the place 3.
 use mathlib.Core.List.{List, [], _∷_}
 use Prim.Native.Nat.{ℕ, _+_}

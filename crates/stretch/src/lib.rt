@@ -1,4 +1,4 @@
-// The caller's own words that drive a register (01, Stretch), found with a reader that holds the listing and its position.
+// The caller's own words that drive a register (SPECIFICATION, "Stretch"), found with a reader that holds the listing and its position.
 //
 // Example: in `a0 any seq0 r0 a1 any and match` the words `a0 any seq0` drive register 0. They are its assignment: an
 // expression and the store that ends it.
@@ -23,7 +23,7 @@ fn another_at(listing: &[u32], place: usize, register: u32) -> bool
     while here < listing.len() {
         let word = listing[here];
         if listing::is_store(word) {
-            return word % 16777216 != register;
+            return word % meaning::operation::UNIT != register;
         }
         here += 1;
     }

@@ -1,4 +1,4 @@
--- The text of 01's example, of a refusal, and of a line of each tag and token, computed.
+-- The text of the specification's example, of a refusal, and of a line of each tag and token, computed.
 use mathlib.Core.Path.{_≡_, refl}
 use mathlib.Core.List.{[], _∷_}
 use Rattle.words.specs.Choice.{pick}
@@ -17,7 +17,7 @@ a-refusal : answer-text (Refused 12 4294967295) (word 14 0 ∷ []) ≡ bytes "re
 unfolding answer-text words-listed first-line-text lines-text digits pick
 a-refusal = refl
 
--- The other tags and tokens.
+-- The lines with the tags and tokens that the specification's example lacks.
 every-tag : lines-text []
     (word 3 0 ∷ word 10 7 ∷ word 4 0 ∷ word 6 0 ∷ word 11 10 ∷ word 1 65535 ∷ word 2 0 ∷ word 8 0 ∷ word 12 11 ∷ word 2 12 ∷ word 13 12 ∷ [])
     ≡ bytes "arm 7 = 0\ngto 10 = 1 not\nncx 11 = a65535 r0 or\ncrl 12 = r12\n"

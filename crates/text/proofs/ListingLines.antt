@@ -43,7 +43,7 @@ line-start-few w =
     pick-few (eqb (operation w) 14) _ _ (omega arith)
     (simp length-append (omega (arith, tag-few (operation w), digits-few 20 (argument w))))
 
--- So an expression has 22 bytes a word, and a line 27 more for its store.
+-- An expression has at most 22 bytes a word, and a line at most 27 more for its store.
 tokens-few : (ws : List ℕ) → length (tokens-text ws) ≤ 22 * length ws
 unfolding tokens-text
 tokens-few [] = omega arith
@@ -53,7 +53,7 @@ line-few : (ws : List ℕ) (w : ℕ) → length (line-text ws w) ≤ 22 * length
 unfolding line-text
 line-few ws w = simp length-append (omega (arith, line-start-few w, tokens-few ws))
 
--- The same said of the place behind each part.
+-- The bytes of each part bound the place behind it.
 pub tag-end : (o : ℕ) {b b′ : List ℕ} {at p : ℕ} → Wrote b b′ at p (tag-text o) → p ≤ at + 3
 tag-end o x = ends-within (tag-text o) (tag-few o) x
 
@@ -136,7 +136,7 @@ line-first before [] h = absurd (omega arith)
 line-first before (w ∷ ws) h =
     line-at (leb 9 (operation w)) before w ws (expression-length ws) refl h λ inside. line-first (before ++ (w ∷ [])) ws inside
 
--- The same in the whole listing, for the words from `from` on.
+-- In the whole listing, the first line of the words from `from` on is that of the words before their first store.
 line-from : (listing : List ℕ) (from n : ℕ) → n ≡ expression-length (drop from listing) → from + n < length listing
     → lines-text [] (drop from listing) ≡ line-text (take n (drop from listing)) (getD listing (from + n) 0) ++ lines-text [] (drop (from + suc n) listing)
 line-from listing from n e h =

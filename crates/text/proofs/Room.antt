@@ -7,7 +7,7 @@ use native.Mathlib.Omega.{arith}
 use borrow.Author.Tests.{le-leb, lt-leb, leb-true}
 use lib.Dec.{leb}
 use lib.ListN.{length}
-use Rattle.words.specs.Choice.{pick-true, pick-false, pick-yes, pick-no, pick-case}
+use Rattle.words.specs.Choice.{pick-true, pick-false, pick-yes, pick-no}
 use Rattle.words.specs.Written.{Wrote}
 use Rattle.words.proofs.Laws.{still-long}
 use Rattle.words.proofs.Taken.{both-hold}

@@ -1,4 +1,4 @@
--- The text of an answer, byte by byte (01, the listing program): the counts or the refusal on the first line, then a line for
+-- The text of an answer, byte by byte (SPECIFICATION, "The listing program"): the counts or the refusal on the first line, then a line for
 -- each register and one for the match.
 -- Example: for `a ##1 b` it is "ok 1 8 2\nseq 0 = a0 any\nmatch = r0 a1 any and\n".
 use mathlib.Core.List.{List, [], _∷_, _++_}
@@ -29,7 +29,7 @@ digits (suc most) n =
 abbrev pub decimal : ℕ → List ℕ
 decimal n = digits 20 n
 
--- "1 atom, 2 register, 3 zero, 4 one, 5 any (reduction OR), 6 not, 7 and, 8 or"
+-- The tokens of operations 1 to 8 (SPECIFICATION, "The listing").
 unfoldable pub token-text : ℕ → List ℕ
 token-text w =
     pick (eqb (operation w) 1)
@@ -44,11 +44,11 @@ token-text w =
     (bytes "any")
     (pick (eqb (operation w) 6) (bytes "not") (pick (eqb (operation w) 7) (bytes "and") (bytes "or")))))))
 
--- "stores 9 seq, 10 arm, 11 gto, 12 ncx, 13 crl", by the operation.
+-- The tags of the stores, by the operation.
 unfoldable pub tag-text : ℕ → List ℕ
 tag-text o = pick (eqb o 9) (bytes "seq") (pick (eqb o 10) (bytes "arm") (pick (eqb o 11) (bytes "gto") (pick (eqb o 12) (bytes "ncx") (bytes "crl"))))
 
--- "14 match", or "tag, register".
+-- What a line begins with: `match`, or the tag and the register.
 unfoldable pub line-start-text : ℕ → List ℕ
 line-start-text w =
     pick (eqb (operation w) 14) (bytes "match =") (tag-text (operation w) ++ ((code " " ∷ decimal (argument w)) ++ bytes " ="))
@@ -58,7 +58,7 @@ unfoldable pub tokens-text : List ℕ → List ℕ
 tokens-text [] = []
 tokens-text (w ∷ ws) = bytes " " ++ (token-text w ++ tokens-text ws)
 
--- "Then tag, register, tokens": the line of an expression's words and of the store, or the match, that ends them.
+-- "the store's tag, its register, =, and the tokens of the expression": the line of an expression's words and of the store, or the match, that ends them.
 unfoldable pub line-text : List ℕ → ℕ → List ℕ
 line-text expression store = line-start-text store ++ (tokens-text expression ++ bytes "\n")
 
@@ -79,7 +79,7 @@ expression-length (w ∷ ws) = let more = suc (expression-length ws) in pick (le
 abbrev pub decimal-then : ℕ → ℕ → List ℕ
 decimal-then end n = decimal n ++ (end ∷ [])
 
--- "First line: registers, words, deepest stack, or `refused`, number, place."
+-- "The first line is ok, the registers, the words and the deepest stack; or refused, the number and the place."
 unfoldable pub first-line-text : Lowered → List ℕ
 first-line-text (Listing r w d) = bytes "ok " ++ (decimal-then (code " ") r ++ (decimal-then (code " ") w ++ decimal-then (code "\n") d))
 first-line-text (Refused number place) = bytes "refused " ++ (decimal-then (code " ") number ++ decimal-then (code "\n") place)

@@ -9,6 +9,7 @@ ghost use Rattle.words.specs.Written.{Wrote};
 ghost use Rattle.text.specs.Text.{digits, decimal, decimal-then, token-text, tag-text, line-start-text, tokens-text, line-text};
 ghost use Rattle.text.specs.Text.{lines-text, expression-length, first-line-text, words-listed, answer-text};
 ghost use Rattle.text.specs.Page.{has-room, Prints};
+use meaning::operation;
 
 // What became of a text: so many bytes in front of the page, or nothing, for want of room.
 pub enum Printed {
@@ -77,26 +78,26 @@ fn token(w: u32, out: &mut [u8], at: usize) -> usize
     requires { ⌜ at + 21 ≤ length (now out) ⌝ }
     ensures { λ next. ⌜ Wrote (now (out .entry)) (now (out .exit)) at next (token-text w) ⌝ }
 {
-    let o = w / 16777216;
-    if o == 1 {
-        return then_number(b'a', w % 16777216, out, at);
+    let o = w / operation::UNIT;
+    if o == operation::ATOM {
+        return then_number(b'a', w % operation::UNIT, out, at);
     }
-    if o == 2 {
-        return then_number(b'r', w % 16777216, out, at);
+    if o == operation::REGISTER {
+        return then_number(b'r', w % operation::UNIT, out, at);
     }
-    if o == 3 {
+    if o == operation::ZERO {
         return copied(b"0", out, at);
     }
-    if o == 4 {
+    if o == operation::ONE {
         return copied(b"1", out, at);
     }
-    if o == 5 {
+    if o == operation::ANY {
         return copied(b"any", out, at);
     }
-    if o == 6 {
+    if o == operation::NOT {
         return copied(b"not", out, at);
     }
-    if o == 7 {
+    if o == operation::AND {
         return copied(b"and", out, at);
     }
     copied(b"or", out, at)
@@ -107,16 +108,16 @@ fn tag(o: u32, out: &mut [u8], at: usize) -> usize
     requires { ⌜ at + 3 ≤ length (now out) ⌝ }
     ensures { λ next. ⌜ Wrote (now (out .entry)) (now (out .exit)) at next (tag-text o) ⌝ }
 {
-    if o == 9 {
+    if o == operation::SEQ {
         return copied(b"seq", out, at);
     }
-    if o == 10 {
+    if o == operation::ARM {
         return copied(b"arm", out, at);
     }
-    if o == 11 {
+    if o == operation::GTO {
         return copied(b"gto", out, at);
     }
-    if o == 12 {
+    if o == operation::NCX {
         return copied(b"ncx", out, at);
     }
     copied(b"crl", out, at)
@@ -127,12 +128,12 @@ fn line_start(w: u32, out: &mut [u8], at: usize) -> usize
     requires { ⌜ at + 26 ≤ length (now out) ⌝ }
     ensures { λ next. ⌜ Wrote (now (out .entry)) (now (out .exit)) at next (line-start-text w) ⌝ }
 {
-    let o = w / 16777216;
-    if o == 14 {
+    let o = w / operation::UNIT;
+    if o == operation::MATCH {
         return copied(b"match =", out, at);
     }
     let tagged = tag(o, out, at);
-    let numbered = then_number(b' ', w % 16777216, out, tagged);
+    let numbered = then_number(b' ', w % operation::UNIT, out, tagged);
     copied(b" =", out, numbered)
 }
 
@@ -168,7 +169,7 @@ fn expression_end(listing: &[u32], from: usize) -> usize
 {
     let mut i = from;
     while i < listing.len() {
-        if 9 <= listing[i] / 16777216 {
+        if operation::SEQ <= listing[i] / operation::UNIT {
             return i;
         }
         i += 1;

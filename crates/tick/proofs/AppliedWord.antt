@@ -44,7 +44,7 @@ unfolding stack-in
 one-off places zero k = absurd (omega arith)
 one-off places (suc h) k = let e : suc h - 1 ≡ h = omega arith in rw e refl
 
--- Its two topmost values.
+-- The stack with its two topmost values apart.
 two-off : (places : List ℕ) (h : ℕ) → 2 ≤ h → stack-in places h ≡ getD places (h - 1) 0 ∷ getD places (h - 2) 0 ∷ stack-in places (h - 2)
 two-off places h k =
     let e : h - 1 - 1 ≡ h - 2 = omega arith in
@@ -60,7 +60,7 @@ pub rest-bits : (x : ℕ) (st : List ℕ) → all-bits (x ∷ st) ≡ true → a
 unfolding all-bits
 rest-bits x st e = second-holds (ltb 1 x) e .1
 
--- One bit more.
+-- A bit on top of a stack of bits leaves a stack of bits.
 more-bits : (x : ℕ) (st : List ℕ) → x ≤ 1 → all-bits st ≡ true → all-bits (x ∷ st) ≡ true
 unfolding all-bits
 more-bits x st h e = pick-false _ _ (le-ltb 1 x h) ∙ e
@@ -82,11 +82,11 @@ value-after cur atoms w st p q =
 
 -- What a word names is lent.
 module _ {cur atoms w : ℕ} (l : Lent cur atoms w) where
-  -- An atom.
+  -- The atom that a word names is lent.
   pub atom-lent : operation w ≡ 1 → argument w < atoms
   atom-lent q = l .atom q
 
-  -- A register.
+  -- The register that a word names is lent.
   pub register-lent : operation w ≡ 2 → argument w < cur
   register-lent q = l .register q
 
@@ -112,7 +112,7 @@ module _ {registers lent : ℕ} {places : List ℕ} {h w : ℕ} (r : Applicable 
   pub room-for-one : 5 ≤ operation w → h - 1 < length places
   room-for-one q = omega (arith, one-there q, r .inside)
 
-  -- So does the value below it.
+  -- The value below the top lies within the slice.
   pub room-for-two : 7 ≤ operation w → h - 2 < length places
   room-for-two q = omega (arith, two-there q, r .inside)
 
@@ -120,11 +120,14 @@ module _ {registers lent : ℕ} {places : List ℕ} {h w : ℕ} (r : Applicable 
   pub top-bit : 5 ≤ operation w → getD places (h - 1) 0 ≤ 1
   top-bit q = first-bit _ _ (rw (one-off places h (one-there q)) at (r .bits))
 
-  -- The value below it is a bit.
+  -- The value below the top is a bit.
   pub second-bit : 7 ≤ operation w → getD places (h - 2) 0 ≤ 1
   second-bit q = first-bit _ _ (rest-bits _ _ (rw (two-off places h (two-there q)) at (r .bits)))
 
-  -- By the table's rows: what any, not, and, or take is there ..
+  -- By the table's rows, the values that a word takes are there.
+  pub value-finds : {v : Row} → v ≡ row-of 1 → v .takes ≤ h
+  value-finds e = rw (e, value-row 1 (omega arith) (omega arith)) (omega arith)
+
   pub any-finds : {v : Row} → v ≡ row-of 5 → 5 ≤ operation w → v .takes ≤ h
   any-finds e q = rw (e, change-row 5 (omega arith) (omega arith)) (one-there q)
 
@@ -137,7 +140,7 @@ module _ {registers lent : ℕ} {places : List ℕ} {h w : ℕ} (r : Applicable 
   pub or-finds : {v : Row} → v ≡ row-of 8 → 7 ≤ operation w → v .takes ≤ h
   or-finds e q = rw (e, join-row 8 (omega arith) (omega arith)) (two-there q)
 
-  -- .. and where the value of a word goes lies within the slice.
+  -- By the table's rows, the place where a word's value goes lies within the slice.
   pub value-room : {v : Row} → v ≡ row-of 1 → operation w < 5 → h - v .takes < length places
   value-room e q = rw (e, value-row 1 (omega arith) (omega arith)) (omega (arith, room-above q))
 
@@ -152,7 +155,7 @@ module _ {registers lent : ℕ} {places : List ℕ} {h w : ℕ} (r : Applicable 
 
   -- Each kind of operation, as the code ends it.
   module _ {cur atoms after : List ℕ} {n : ℕ} where
-    -- Operations 1 to 4.
+    -- Operations 1 to 4 are applied by putting their value just past the stack.
     pub apply-value : {v : ℕ} {k : Row} → operation w < 5 → v ≡ value-of cur atoms w → k ≡ row-of 1 → n ≡ h - k .takes + k .leaves
         → after ≡ set places (h - k .takes) v → Applied cur atoms places after h w n
     apply-value {v} q e f x y =
@@ -166,7 +169,7 @@ module _ {registers lent : ℕ} {places : List ℕ} {h w : ℕ} (r : Applicable 
           holds = rw (a, b, put-on places h v (room-above q), e) (sym (value-after cur atoms w (stack-in places h) (r .operand .known) q));
         }
 
-    -- Operation 6.
+    -- Operation 6 is applied by changing the top.
     pub apply-not : {k : Row} → 5 ≤ operation w → (operation w ≡ 5 → ⊥) → operation w < 7 → k ≡ row-of 6 → n ≡ h - k .takes + k .leaves
         → after ≡ set places (h - k .takes) (1 - getD places (h - 1) 0) → Applied cur atoms places after h w n
     unfolding stack-after pick negated
@@ -181,7 +184,7 @@ module _ {registers lent : ℕ} {places : List ℕ} {h w : ℕ} (r : Applicable 
           holds = rw (a, b, q, put-on places (h - 1) (1 - getD places (h - 1) 0) (room-for-one u), one-off places h (one-there u)) refl;
         }
 
-    -- Operation 7.
+    -- Operation 7 is applied by putting the product of the two topmost values in their place.
     pub apply-and : {x : ℕ} {k : Row} → operation w ≡ 7 → x ≡ getD places (h - 2) 0 * getD places (h - 1) 0 → k ≡ row-of 7
         → n ≡ h - k .takes + k .leaves → after ≡ set places (h - k .takes) x → Applied cur atoms places after h w n
     unfolding stack-after pick anded
@@ -195,7 +198,7 @@ module _ {registers lent : ℕ} {places : List ℕ} {h w : ℕ} (r : Applicable 
           holds = rw (a, b, q, put-on places (h - 2) x (room-for-two (omega arith)), two-off places h (two-there (omega arith)), v) refl;
         }
 
-    -- Operation 8.
+    -- Operation 8 is applied by putting the larger of the two topmost values in their place.
     pub apply-or : {x : ℕ} {k : Row} → 7 ≤ operation w → (operation w ≡ 7 → ⊥) → x ≡ max (getD places (h - 2) 0) (getD places (h - 1) 0) → k ≡ row-of 8
         → n ≡ h - k .takes + k .leaves → after ≡ set places (h - k .takes) x → Applied cur atoms places after h w n
     unfolding stack-after pick ored

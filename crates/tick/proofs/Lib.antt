@@ -1,5 +1,3 @@
-pub mod Place
-pub mod NotedWord
 pub mod Surveying
 pub mod AppliedWord
 pub mod Evaluating

@@ -18,7 +18,8 @@ use Rattle.meaning.specs.Tick.{too-short, all-bits, named-bits, bits, tick-if, 
 use Rattle.meaning.specs.declared.Checked.{Checked}
 use Rattle.meaning.specs.declared.Checked.the-variants.{Described, Faulty as FaultyAt}
 use Rattle.meaning.specs.declared.Ticked.the-variants.{Match, Refused}
-use Rattle.tick.specs.Survey.{wanted, lacking, surveyed-if, surveyed, Undescribed}
+use Rattle.listing.specs.Step.{Undescribed}
+use Rattle.tick.specs.Survey.{wanted, lacking, surveyed-if, surveyed}
 use Rattle.tick.specs.Stack.{Ready, Evaluated}
 use Rattle.tick.specs.Stepped.{Stepped}
 use Rattle.words.proofs.Taken.{one-test, no-test, neither-holds}
@@ -26,10 +27,10 @@ use Rattle.tick.specs.declared.Wanted.{Wanted}
 use Rattle.tick.specs.declared.Surveyed.{Surveyed}
 use Rattle.tick.specs.declared.Surveyed.the-variants.{Whole, Faulty}
 
--- The highest of the bytes before the place i.
-pub record Highest (bytes : List ℕ) (highest i : ℕ) : Type 0 where
-  pub inside : i ≤ length bytes
-  pub rest : all-bits bytes ≡ pick (leb highest 1) (all-bits (drop i bytes)) false
+-- The highest of the bytes before the place p.
+pub record Highest (bytes : List ℕ) (highest p : ℕ) : Type 0 where
+  pub inside : p ≤ length bytes
+  pub rest : all-bits bytes ≡ pick (leb highest 1) (all-bits (drop p bytes)) false
 
 -- Of no byte the highest is 0.
 pub highest-begins : (bytes : List ℕ) → Highest bytes 0 0
@@ -49,13 +50,13 @@ higher h x rest =
       | no a ↦ rw (lt-leb h 1 (omega arith), lt-leb (max h x) 1 (omega (arith, le-max-left h x))) refl
     ]
 
--- A byte more.
-pub highest-on : {bytes : List ℕ} {h i m : ℕ} → Highest bytes h i → i < length bytes → m ≡ max h (getD bytes i 0) → Highest bytes m (i + 1)
+-- A byte more is looked at.
+pub highest-on : {bytes : List ℕ} {h p m : ℕ} → Highest bytes h p → p < length bytes → m ≡ max h (getD bytes p 0) → Highest bytes m (p + 1)
 unfolding all-bits
-highest-on {bytes} {h} {i} g l e = record { inside = omega arith; rest = g .rest ∙ rw (drop-here bytes i l, e) (higher h (getD bytes i 0) (all-bits (drop (i + 1) bytes))) }
+highest-on {bytes} {h} {p} g l e = record { inside = omega arith; rest = g .rest ∙ rw (drop-here bytes p l, e) (higher h (getD bytes p 0) (all-bits (drop (p + 1) bytes))) }
 
 -- At the end the highest of all decides.
-pub highest-decides : {bytes : List ℕ} {h i : ℕ} → Highest bytes h i → length bytes ≤ i → leb h 1 ≡ all-bits bytes
+pub highest-decides : {bytes : List ℕ} {h p : ℕ} → Highest bytes h p → length bytes ≤ p → leb h 1 ≡ all-bits bytes
 unfolding all-bits
 highest-decides {bytes} {h} g m = sym (g .rest ∙ rw (drop-of-length-le bytes m) (one-test (leb h 1)))
 
@@ -65,7 +66,7 @@ unfolding surveyed-if
 faulty-check Described ws atoms e q = let z : _≡_ {A = ℕ} 0 1 = cc in omega arith
 faulty-check (FaultyAt place) ws atoms e q = let z : _≡_ {A = ℕ} 0 1 = cc in omega arith
 
--- A whole one is described, and its wants are known.
+-- A listing that is whole is described, and its wants are known.
 whole-check : {v : Wanted} (c : Checked) (ws atoms : List ℕ) → surveyed-if c ws atoms ≡ Whole v → (c ≡ Described) × (v ≡ wanted ws atoms)
 unfolding surveyed-if
 whole-check Described ws atoms e = (refl, (cc))
@@ -82,12 +83,12 @@ module _ {s : Surveyed} (ws atoms : List ℕ) (e : s ≡ surveyed ws atoms) wher
   unfolding surveyed
   whole-described q = whole-check (check ws) ws atoms (sym e ∙ q) .0
 
-  -- What it wants is known.
+  -- What a whole listing wants is known.
   pub whole-wanted : {v : Wanted} → s ≡ Whole v → v ≡ wanted ws atoms
   unfolding surveyed
   whole-wanted q = whole-check (check ws) ws atoms (sym e ∙ q) .1
 
--- 21.
+-- A faulty listing is refused with 21.
 pub faulty-tick : {place : ℕ} (ws cur atoms next stack : List ℕ) → FaultyAt place ≡ check ws → Stepped ws cur atoms next next stack stack (Refused 21 place)
 unfolding tick tick-if next-after stack-left
 faulty-tick ws cur atoms next stack e = record { answer = sym (rw (← e) refl); next-holds = refl; stack-holds = refl }
@@ -106,13 +107,13 @@ module _ {v : Wanted} {b : Bool} (ws cur atoms next stack : List ℕ) (d : check
   unfolding too-short lacking
   short = sym (c ∙ rw e refl)
 
-  -- 22.
+  -- What is too short is refused with 22.
   pub short-tick : b ≡ true → Stepped ws cur atoms next next stack stack (Refused 22 0)
   unfolding tick tick-if next-after stack-left
   short-tick q = record { answer = sym (rw d (pick-true _ _ (short ∙ q))); next-holds = refl; stack-holds = refl }
 
   module _ (q : b ≡ false) where
-    -- 23 of either kind.
+    -- A byte above 1 of either kind is refused with 23.
     above-one : bits ws cur atoms ≡ false → Stepped ws cur atoms next next stack stack (Refused 23 0)
     unfolding tick tick-if next-after stack-left
     above-one n = record { answer = sym (rw d (pick-false _ _ (short ∙ q) ∙ pick-false _ _ n)); next-holds = refl; stack-holds = refl }
@@ -127,7 +128,7 @@ module _ {v : Wanted} {b : Bool} (ws cur atoms next stack : List ℕ) (d : check
       all-bits-here : all-bits (take (registers ws) cur) ≡ a
       all-bits-here = sym (f ∙ rw e refl)
 
-      -- 23: a register.
+      -- A register above 1 is refused with 23.
       pub register-above-one : not a ≡ true → Stepped ws cur atoms next next stack stack (Refused 23 0)
       unfolding bits
       register-above-one n = above-one (pick-false _ _ (all-bits-here ∙ not-true a n))
@@ -142,8 +143,8 @@ module _ {v : Wanted} {b : Bool} (ws cur atoms next stack : List ℕ) (d : check
       long =
           let g = neither-holds _ (short ∙ q) in
           let h = neither-holds _ (g .1) in
-          let i = neither-holds _ (h .1) in
-          (ltb-false _ _ (g .0), ltb-false _ _ (h .0), ltb-false _ _ (i .0), ltb-false _ _ (i .1))
+          let p = neither-holds _ (h .1) in
+          (ltb-false _ _ (g .0), ltb-false _ _ (h .0), ltb-false _ _ (p .0), ltb-false _ _ (p .1))
 
       -- The evaluation may begin.
       pub nothing-refused : not a ≡ false → Ready ws cur atoms next stack

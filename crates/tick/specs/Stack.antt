@@ -38,7 +38,7 @@ pub record Applicable (cur atoms : ℕ) (places : List ℕ) (h w : ℕ) : Type 0
   pub lent : Lent cur atoms w
   pub bits : all-bits (stack-in places h) ≡ true
 
--- The stack after such a word.
+-- The stack after a word of an expression.
 pub record Applied (cur atoms places after : List ℕ) (h w r : ℕ) : Type 0 where
   pub long : length after ≡ length places
   pub high : r ≡ height h w

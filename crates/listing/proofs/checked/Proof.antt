@@ -1,22 +1,22 @@
--- The loop finds the first word that does not fit.
-use borrow.Author.Needs.{needs}
+-- The loop finds the first word that does not fit: it keeps `Passing` with the count of the whole slice.
 use Prim.Native.Nat.{_-_}
 use lib.ListN.{length}
-use Rattle.listing.proofs.Laws.{Checking, checking-begins, faulty-here, faulty-past, described-there, fits-here, checking-on, ends-early}
+use Rattle.listing.proofs.OnePass.{Passing, passing-begins, passing-on, faulty-here, faulty-past, described-there, ends-early}
+use borrow.Author.Needs.{needs}
 use Rattle.listing.proofs.checked.Statement.{statement}
 use Rattle.listing.proofs.checked.Tie as tie
 
 abbrev Inv-loop : tie.InvT-loop
-Inv-loop listing count stores₀ height₀ i₀ stores height i = Checking listing stores height i
+Inv-loop listing count s₀ p₀ s p = Passing count listing s p
 
 abbrev μ-loop : tie.MeasureT-loop
-μ-loop listing count stores₀ height₀ i₀ stores height i = length listing - i
+μ-loop listing count s₀ p₀ s p = length listing - p
 
 registers-requires : tie.Need-registers-requires Inv-loop μ-loop
 registers-requires c κs = search needs
 
 loop-holds : tie.Need-loop-holds Inv-loop μ-loop
-loop-holds c = search checking-begins
+loop-holds c = search passing-begins
 
 mul-w : tie.Need-mul-w Inv-loop μ-loop
 mul-w c = search needs
@@ -27,29 +27,32 @@ shared-slice-read-w c = search needs
 add-next : tie.Need-add-next Inv-loop μ-loop
 add-next c = search needs
 
-word-fits-requires : tie.Need-word-fits-requires Inv-loop μ-loop
-word-fits-requires c κs = search needs
+ended-requires : tie.Need-ended-requires Inv-loop μ-loop
+ended-requires c κs = search needs
 
 returns : tie.Need-returns Inv-loop μ-loop
-returns c = search faulty-here
+returns c = search faulty-past
 
 returns-2 : tie.Need-returns-2 Inv-loop μ-loop
-returns-2 c = search faulty-past
+returns-2 c = search described-there
+
+note-requires : tie.Need-note-requires Inv-loop μ-loop
+note-requires c κs = search needs
+
+enum-known-t : tie.Need-enum-known-t Inv-loop μ-loop
+enum-known-t c = search needs
+
+enum-told : tie.Need-enum-told Inv-loop μ-loop
+enum-told c = search needs
 
 returns-3 : tie.Need-returns-3 Inv-loop μ-loop
-returns-3 c = search described-there
-
-stores-with-requires : tie.Need-stores-with-requires Inv-loop μ-loop
-stores-with-requires c κs = search needs
-
-height-with-requires : tie.Need-height-with-requires Inv-loop μ-loop
-height-with-requires c κs = (search fits-here, search needs)
+returns-3 c = search faulty-here
 
 loop-less : tie.Need-loop-less Inv-loop μ-loop
 loop-less c = search needs
 
 loop-again : tie.Need-loop-again Inv-loop μ-loop
-loop-again c = search checking-on
+loop-again c = search passing-on
 
 returns-4 : tie.Need-returns-4 Inv-loop μ-loop
 returns-4 c = search ends-early
@@ -65,12 +68,13 @@ checked-spec =
     mul-w
     shared-slice-read-w
     add-next
-    word-fits-requires
+    ended-requires
     returns
     returns-2
+    note-requires
+    enum-known-t
+    enum-told
     returns-3
-    stores-with-requires
-    height-with-requires
     loop-less
     loop-again
     returns-4)

@@ -7,10 +7,10 @@ use Rattle.listing.proofs.deepest.Statement.{statement}
 use Rattle.listing.proofs.deepest.Tie as tie
 
 abbrev Inv-loop : tie.InvT-loop
-Inv-loop listing deepest₀ height₀ i₀ deepest height i = Deepening listing deepest height i
+Inv-loop listing deepest₀ height₀ p₀ deepest height p = Deepening listing deepest height p
 
 abbrev μ-loop : tie.MeasureT-loop
-μ-loop listing deepest₀ height₀ i₀ deepest height i = length listing - i
+μ-loop listing deepest₀ height₀ p₀ deepest height p = length listing - p
 
 loop-holds : tie.Need-loop-holds Inv-loop μ-loop
 loop-holds c = search deepening-begins
@@ -27,8 +27,8 @@ height-with-requires c κs = (search operand-found, search needs)
 larger-requires : tie.Need-larger-requires Inv-loop μ-loop
 larger-requires c κs = search needs
 
-add-i : tie.Need-add-i Inv-loop μ-loop
-add-i c = search needs
+add-at : tie.Need-add-at Inv-loop μ-loop
+add-at c = search needs
 
 loop-less : tie.Need-loop-less Inv-loop μ-loop
 loop-less c = search needs
@@ -50,7 +50,7 @@ deepest-spec =
     shared-slice-read-height-with
     height-with-requires
     larger-requires
-    add-i
+    add-at
     loop-less
     loop-again
     returns)

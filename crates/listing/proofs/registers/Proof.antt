@@ -7,10 +7,10 @@ use Rattle.listing.proofs.registers.Statement.{statement}
 use Rattle.listing.proofs.registers.Tie as tie
 
 abbrev Inv-loop : tie.InvT-loop
-Inv-loop listing stores₀ i₀ stores i = Counting listing stores i
+Inv-loop listing stores₀ p₀ stores p = Counting listing stores p
 
 abbrev μ-loop : tie.MeasureT-loop
-μ-loop listing stores₀ i₀ stores i = length listing - i
+μ-loop listing stores₀ p₀ stores p = length listing - p
 
 loop-holds : tie.Need-loop-holds Inv-loop μ-loop
 loop-holds c = search counting-begins
@@ -24,8 +24,8 @@ shared-slice-read-stores-with c = search needs
 stores-with-requires : tie.Need-stores-with-requires Inv-loop μ-loop
 stores-with-requires c κs = search needs
 
-add-i : tie.Need-add-i Inv-loop μ-loop
-add-i c = search needs
+add-at : tie.Need-add-at Inv-loop μ-loop
+add-at c = search needs
 
 loop-less : tie.Need-loop-less Inv-loop μ-loop
 loop-less c = search needs
@@ -46,7 +46,7 @@ registers-spec =
     mul-stores-with
     shared-slice-read-stores-with
     stores-with-requires
-    add-i
+    add-at
     loop-less
     loop-again
     returns)

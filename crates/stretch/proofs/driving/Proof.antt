@@ -135,7 +135,7 @@ module _ {M : Type 1} (𝓤 : URA M) (H : Heap 𝓤) (A : Atoms 𝓤) (W : Given
   asks-new =
       qed W (token ∷ ‵ (owns (Slice ∷ u32 ∷ []) (s, (n, tt)) passed) ∷ []) ∵
       move ! (1 ∷ []) $ fsplit ! $ move ! (1 ∷ []) $ drop ! $
-      -- a slice is Copy: one copy of what it owns goes to the call, one stays
+      -- A slice is Copy: one copy of what it owns goes to the call, one stays.
       use1 W (‵ (Slice-own κ s) ⊛ ‵ (Slice-own κ s)) (shr-slice-copy 𝓤 H A W (named 0) κ u32 .twice s (slice-value s ∷ [])) $ split ! $
       nothing ! $ move ! (1 ∷ 0 ∷ []) $ fjoin ! $ move ! (2 ∷ 0 ∷ []) $
       use2 W (raw (New 𝓤 H A mem run .pre to-new)) (qed W (token ∷ ‵ (owns (Slice ∷ []) (s, tt) (slice-value s ∷ [], tt)) ∷ []) ∵ join ! $ frame ! $ done !) $ frame ! $ done !
@@ -214,7 +214,7 @@ module _ {M : Type 1} (𝓤 : URA M) (H : Heap 𝓤) (A : Atoms 𝓤) (W : Given
           ∷ ‵ (froom held l₇ 0) ∷ ‵ (fdies held l₇) ∷ ‵ (froom held l₆ 0) ∷ ‵ (fdies held l₆) ∷ ‵ (froom held l₅ 0) ∷ ‵ (fdies held l₅)
           ∷ ‵ (froom tyBool l₄ 0) ∷ ‵ (fdies tyBool l₄) ∷ ‵ (fat fullShare held l₃ 0 (x .value)) ∷ ‵ (fdies held l₃) ∷ Others
 
-      -- The same after the test: its answer t stands in _4, and the copy that was tested in _5.
+      -- What is had after the test of a turn: its answer t stands in _4, and the copy that was tested in _5.
       abbrev Known : Standing κ s n → Bool → List (Item 𝓤)
       Known x t = Own (x .reader) (x .value) ∷ token ∷ ‵ (Slice-own κ s)
           ∷ ‵ (froom held l₇ 0) ∷ ‵ (fdies held l₇) ∷ ‵ (froom held l₆ 0) ∷ ‵ (fdies held l₆) ∷ ‵ (fat fullShare held l₅ 0 (x .value)) ∷ ‵ (fdies held l₅)
@@ -245,7 +245,7 @@ module _ {M : Type 1} (𝓤 : URA M) (H : Heap 𝓤) (A : Atoms 𝓤) (W : Given
             use1 W (later (some (λ (r′ : Reader). (token ⊛ Own r′ u′) ⊛ raw (ensured 𝓤 H A next.ended (next.clauses 𝓤 H A mem run) (κ, tt) (r, tt) tt r′)))) (id⊢ 𝓤 _) $ await ! tt $ pick ! (λ r′.
             split ! $ move ! (1 ∷ []) $ use1 W (raw (fact 𝓤 (Moved r r′))) (hears-next r u r′) $ heard ! (Moved r r′) (λ e. split ! $ move ! (1 ∷ []) $
             peeks ! (Row (κ, tt)) (Is (Row (κ, tt))) (shows 𝓤 H A (Row (κ, tt))) r′ (u′ ∷ []) (λ is.
-            -- the reader moved on takes the place of the one before, and the turn is over
+            -- The reader moved on takes the place of the one before, and the turn is over.
             land-last ! (from ! (stop !)) (store ! 11 refl (typed r′ u′ is)) $
             forget ! 5 refl $ forget ! 7 refl $ forget ! 9 refl $ again ! Nearer At x (moves x r′ h e u′ is) (moves-nearer x r′ h e)))))
 
@@ -259,7 +259,7 @@ module _ {M : Type 1} (𝓤 : URA M) (H : Heap 𝓤) (A : Atoms 𝓤) (W : Given
             peeks ! Slice (Is Slice) (shows 𝓤 H A Slice) p (v ∷ []) (λ is.
             -- [the part; the token; what the listing owns; _7; …; room for _6; …; _5; …; _4; …; _3; …; _2; …; _1; …; room for _0; …]
             land ! (from ! (stop !)) (init ! 17 refl (shr-slice-lawful 𝓤 H A W (named 0) κ u32 .typed p _ is .0)) $
-            -- the locals are freed
+            -- The locals are freed.
             returns ! (look ! 17 refl) $ forget ! 3 refl $ forget ! 7 refl $ forget ! 9 refl $ forget ! 11 refl $ forget ! 13 refl $ forget ! 15 refl $ forget ! 17 refl $
             move ! (17 ∷ 18 ∷ []) $ free1 ! $ move ! (15 ∷ 16 ∷ []) $ free1 ! $ move ! (13 ∷ 14 ∷ []) $ free1 ! $ move ! (11 ∷ 12 ∷ []) $ free1 ! $
             move ! (9 ∷ 10 ∷ []) $ free1 ! $ move ! (7 ∷ 8 ∷ []) $ free1 ! $ move ! (5 ∷ 6 ∷ []) $ free1 ! $ move ! (3 ∷ 4 ∷ []) $ free1 ! $ free0 ! $
@@ -269,7 +269,7 @@ module _ {M : Type 1} (𝓤 : URA M) (H : Heap 𝓤) (A : Atoms 𝓤) (W : Given
         unfolding afterTurn
         turns =
             assigns ! (of-opd ! (load ! (from ! (stop !)) (look ! 11 refl))) (from ! (stop !)) (init ! 7 refl (typed r u (x .is))) $
-            -- a reader is Copy: one copy of what it owns goes to the test, one stays
+            -- A reader is Copy: one copy of what it owns goes to the test, one stays.
             use1 W (Own r u ⊛ Own r u) (twice 𝓤 H A W κ r u) $ split ! $ move ! (0 ∷ 2 ∷ []) $
             use2 W (raw (Test 𝓤 H A mem run .pre (to-test r u))) (asks-test r u) $
             calls-at ! fm (Test 𝓤 H A mem run) (known .tests) (to-test r u) (and-then ! (load ! (from ! (stop !)) (look ! 7 refl)) (and-then ! (load ! (from ! (stop !)) (look ! 13 refl)) (no-more !))) (λ b.
@@ -278,7 +278,7 @@ module _ {M : Type 1} (𝓤 : URA M) (H : Heap 𝓤) (A : Atoms 𝓤) (W : Given
             peeks ! Boolean (Is Boolean) (shows 𝓤 H A Boolean) t (b ∷ []) (λ is.
             -- [what the answer owns; the token; what the reader owns; what the listing owns; room for _7; …; room for _6; …; _5; …; room for _4; …; _3; …]
             land ! (from ! (stop !)) (init ! 10 refl (bool-lawful 𝓤 H A W .typed t _ is .0)) $ rewrite ! 10 (λ (v : Val). ‵ (fat fullShare tyBool l₄ 0 v)) (ap only is) refl $
-            -- the branch on the answer
+            -- The answer of the test decides the branch.
             drop ! $ move ! (1 ∷ []) $ first ! $ branches ! (load ! (from ! (stop !)) (look ! 9 refl))
             (λ h. skips ! $ exec ! C Λ En step (anyQ (Turned x)) $ steps t (holds t h ∙ e))
             (λ h. jumps ! $ exec ! C Λ En pieces.t-3 (atRet En Post) $ ends t (fails t h ∙ e))))))

@@ -1,7 +1,6 @@
 -- One word on the stack, by the kind of its operation.
-use Rattle.tick.proofs.NotedWord.{value-takes}
 use Rattle.tick.proofs.AppliedWord.{one-there, two-there, room-for-one, room-for-two, top-bit, second-bit}
-use Rattle.tick.proofs.AppliedWord.{any-finds, not-finds, and-finds, or-finds, value-room, not-room, and-room, or-room}
+use Rattle.tick.proofs.AppliedWord.{value-finds, any-finds, not-finds, and-finds, or-finds, value-room, not-room, and-room, or-room}
 use Rattle.tick.proofs.AppliedWord.{apply-value, apply-any, apply-not, apply-and, apply-or}
 use borrow.Author.Needs.{needs}
 use Rattle.tick.proofs.apply.Statement.{statement}
@@ -14,7 +13,7 @@ value-requires : tie.Need-value-requires
 value-requires c κs = search needs
 
 put-requires : tie.Need-put-requires
-put-requires c κs = (search (value-takes, needs), search needs, search value-room)
+put-requires c κs = (search value-finds, search needs, search value-room)
 
 same-length : tie.Need-same-length
 same-length c = search needs

@@ -7,10 +7,10 @@ use Rattle.tick.proofs.are_bits.Statement.{statement}
 use Rattle.tick.proofs.are_bits.Tie as tie
 
 abbrev Inv-loop : tie.InvT-loop
-Inv-loop bytes highest₀ i₀ highest i = Highest bytes highest i
+Inv-loop bytes highest₀ p₀ highest p = Highest bytes highest p
 
 abbrev μ-loop : tie.MeasureT-loop
-μ-loop bytes highest₀ i₀ highest i = length bytes - i
+μ-loop bytes highest₀ p₀ highest p = length bytes - p
 
 loop-holds : tie.Need-loop-holds Inv-loop μ-loop
 loop-holds c = search highest-begins
@@ -21,8 +21,8 @@ shared-slice-read-either c = search needs
 either-requires : tie.Need-either-requires Inv-loop μ-loop
 either-requires c κs = search needs
 
-add-i : tie.Need-add-i Inv-loop μ-loop
-add-i c = search needs
+add-at : tie.Need-add-at Inv-loop μ-loop
+add-at c = search needs
 
 loop-less : tie.Need-loop-less Inv-loop μ-loop
 loop-less c = search needs
@@ -42,7 +42,7 @@ are-bits-spec =
     loop-holds
     shared-slice-read-either
     either-requires
-    add-i
+    add-at
     loop-less
     loop-again
     returns)

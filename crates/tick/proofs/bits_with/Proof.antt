@@ -1,5 +1,5 @@
 -- An atom above 1 is told where it is lent.
-use Rattle.tick.proofs.NotedWord.{above-one, a-bit, not-lent}
+use Rattle.tick.proofs.Surveying.{above-one, a-bit, not-lent}
 use borrow.Author.Needs.{needs}
 use Rattle.tick.proofs.bits_with.Statement.{statement}
 use Rattle.tick.proofs.bits_with.Tie as tie

@@ -7,10 +7,10 @@ use Rattle.tick.proofs.evaluate.Statement.{statement}
 use Rattle.tick.proofs.evaluate.Tie as tie
 
 abbrev Inv-loop : tie.InvT-loop
-Inv-loop listing cur atoms next₀ stack₀ stores₀ height₀ i₀ next stack stores height i = Evaluating listing cur atoms next₀ next stack₀ stack stores height i
+Inv-loop listing cur atoms next₀ stack₀ stores₀ height₀ p₀ next stack stores height p = Evaluating listing cur atoms next₀ next stack₀ stack stores height p
 
 abbrev μ-loop : tie.MeasureT-loop
-μ-loop listing cur atoms next₀ stack₀ stores₀ height₀ i₀ next stack stores height i = length listing - i
+μ-loop listing cur atoms next₀ stack₀ stores₀ height₀ p₀ next stack stores height p = length listing - p
 
 loop-holds : tie.Need-loop-holds Inv-loop μ-loop
 loop-holds c = search evaluating-begins

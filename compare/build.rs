@@ -1,26 +1,33 @@
 //! Brings three things together: the original's files, which stay where they are; this project's archive; and three files in C.
 //!
-//! `SVA_SOURCE` is a folder with the original somewhere below it, `SVA_LIB` the folder of `libsva_c.a`. Both are relative to this folder.
+//! `SVA_SOURCE` is a folder with the original somewhere below it; it has to be set. `SVA_LIB` is the folder of `libsva_c.a`, and need not be set where
+//! `rt staticlib sva_c` wrote it. Both are relative to this folder.
 use std::env;
 use std::fs;
 use std::path::{Path, PathBuf};
-use std::process::Command;
+use std::process::{exit, Command};
 
-/// The files of the original that hold the part taken over (01, "The part we take").
+/// The files of the original that hold the part taken over (docs/SPECIFICATION.md, "Where it comes from").
 const FILES: [&str; 3] = ["sva_ast", "sva_seq", "sva_fsm"];
 
 fn main() {
     let out = PathBuf::from(env::var("OUT_DIR").expect("OUT_DIR"));
-    include_original(&folder("SVA_SOURCE", "../../shared/docs/src"), &out);
-    link_archive(&folder("SVA_LIB", "../target/staticlib"));
+    let Some(source) = folder("SVA_SOURCE") else {
+        eprintln!(
+            "SVA_SOURCE is not set: it has to name the folder that has the original's three files, {}.rs, somewhere below it.",
+            FILES.join(".rs, ")
+        );
+        exit(1);
+    };
+    include_original(&source, &out);
+    link_archive(&folder("SVA_LIB").unwrap_or_else(|| PathBuf::from("../target/staticlib")));
     compile_c(&out);
 }
 
-/// The folder that a variable names, else the default one.
-fn folder(variable: &str, default: &str) -> PathBuf {
+/// The folder that a variable names, if it is set.
+fn folder(variable: &str) -> Option<PathBuf> {
     println!("cargo:rerun-if-env-changed={variable}");
-    let here = PathBuf::from(env::var("CARGO_MANIFEST_DIR").expect("CARGO_MANIFEST_DIR"));
-    here.join(env::var(variable).unwrap_or_else(|_| default.to_string()))
+    env::var_os(variable).map(PathBuf::from)
 }
 
 /// Writes a module file that names the original's files by their paths, so that they are compiled as they are.
@@ -28,7 +35,8 @@ fn include_original(source: &Path, out: &Path) {
     let mut modules = String::new();
     for name in FILES {
         let Some(path) = found(source, &format!("{name}.rs")) else {
-            panic!("no {name}.rs below {}: set SVA_SOURCE", source.display());
+            eprintln!("There is no {name}.rs below {}, the folder that SVA_SOURCE names.", source.display());
+            exit(1);
         };
         println!("cargo:rerun-if-changed={}", path.display());
         modules += &format!("#[path = {path:?}]\n#[allow(dead_code)]\nmod {name};\n#[allow(unused_imports)]\nuse {name}::*;\n");
@@ -55,7 +63,10 @@ fn found(folder: &Path, name: &str) -> Option<PathBuf> {
 /// Links this project's archive.
 fn link_archive(library: &Path) {
     let archive = library.join("libsva_c.a");
-    assert!(archive.is_file(), "no {}: set SVA_LIB", archive.display());
+    if !archive.is_file() {
+        eprintln!("There is no {}: `rt staticlib sva_c` makes it, or SVA_LIB names another folder that has it.", archive.display());
+        exit(1);
+    }
     println!("cargo:rerun-if-changed={}", archive.display());
     println!("cargo:rustc-link-search=native={}", library.display());
     println!("cargo:rustc-link-lib=static=sva_c");

@@ -1,4 +1,4 @@
-//! Trees at document 01's limits, from both sides. Each is compared with exactly the work and output that it needs, and with one word less.
+//! Trees at the specification's limits, from both sides. Each is compared with exactly the work and output that it needs, and with one word less.
 use crate::original::UNLIMITED;
 use crate::trees::{atom, balanced, consecutive, delay, goto, nonconsecutive, throughout, tower, within};
 

@@ -1,4 +1,4 @@
-//! A listing's words (01, "The listing"): what they are made of, counts over them, their text.
+//! A listing's words (SPECIFICATION, "The listing"): what they are made of, counts over them, their text.
 //!
 //! Example: the eight words of `a ##1 b` count 1 register and a deepest stack of 2, and read "seq 0 = a0 any", "match = r0 a1 any and".
 
@@ -73,7 +73,7 @@ pub fn stretch(words: &[u32], register: u32) -> (usize, usize) {
     (0, 0)
 }
 
-/// The text of an answer with its listing, as 01's listing program prints it.
+/// The text of an answer with its listing, as the listing program prints it.
 pub fn text(words: &[u32]) -> String {
     let Counts { registers, words: count, deepest } = counts(words);
     let mut text = format!("ok {registers} {count} {deepest}\n");

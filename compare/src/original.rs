@@ -1,6 +1,6 @@
 //! The original, asked: tree words to its syntax tree, its `synth_seq_match`, and its assignments and match expression as listing words.
 //!
-//! Example: `a ##1 b` gives one assignment, to register "seq.0", and the match expression `seq.0 & |a1`: the words of 01's case.
+//! Example: `a ##1 b` gives one assignment, to register "seq.0", and the match expression `seq.0 & |a1`: the words of the specification's case.
 use crate::elaborate::ast::{HierPath, Ident, Lvalue, Span};
 use crate::elaborate::{BinOp, Elaborator, Expr, ExprKind, RepeatKind, SeqAlt, Sequence, Stmt, Stop, SvaRegs, UnOp};
 use crate::listing;
@@ -173,7 +173,7 @@ impl Lowering {
         for assignment in &self.assignments {
             let (tag, number, expression) = assigned(assignment);
             append(&mut words, expression);
-            let tag = listing::TAGS.iter().position(|t| *t == tag).expect("a tag of 01");
+            let tag = listing::TAGS.iter().position(|t| *t == tag).expect("a tag of the specification");
             words.push(listing::word(9 + tag as u32, number));
         }
         append(&mut words, &self.matched);

@@ -1,4 +1,4 @@
-//! Document 01's refusals, decided anew: numbers and places, in 01's order, with the sizes of what is accepted.
+//! The specification's refusals, decided anew: numbers and places, in the specification's order, with the sizes of what is accepted.
 //!
 //! Refusals 1 to 11 are counted over the table here. For 12 the original's own alternatives are looked at, and `sizes` counts
 //! registers (13) and words (14) over them by arithmetic, so that nothing is built that could not be held.
@@ -7,7 +7,7 @@ use crate::elaborate::{SeqAlt, SeqHop, SeqTerm, Sequence};
 use crate::original::{self, guard_atoms, UNLIMITED};
 use crate::sizes::{self, Sizes};
 
-/// 01's limits: alternatives, repetitions and depth; entries; registers; nodes.
+/// The specification's limits: alternatives, repetitions and depth; entries; registers; nodes.
 pub const ALTERNATIVES: u64 = 256;
 pub const ENTRIES: u64 = 65_536;
 pub const REGISTERS: u64 = 65_536;
@@ -242,7 +242,7 @@ fn sized(sequence: &Sequence, counts: [Counts; 2]) -> Result<Sizes, Refusal> {
     }
 }
 
-/// What document 01 answers of a tree: sizes, or the refusal; and the most entries of a node that the walk came to.
+/// What the specification answers of a tree: sizes, or the refusal; and the most entries of a node that the walk came to.
 pub struct Decided {
     pub answer: Result<Sizes, Refusal>,
     pub most_entries: u128,

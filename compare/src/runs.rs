@@ -1,4 +1,4 @@
-//! What a match is, decided anew: document 01's sentences over sets of runs. A run is a pair of ticks, the first of it and the one after
+//! What a match is, decided anew: the specification's sentences over sets of runs. A run is a pair of ticks, the first of it and the one after
 //! its last; an empty run begins where it ends.
 //!
 //! Example: `a ##2 b` with a at tick 0 and b at tick 2 has the run (0, 3).
@@ -6,7 +6,7 @@ use crate::original::UNLIMITED;
 use crate::rules::{self, Refusal};
 use std::collections::BTreeSet;
 
-/// 02's limits of the matcher, ticket 3: nodes and ticks.
+/// The limits of the matcher: nodes and ticks.
 pub const NODES: usize = 64;
 pub const TICKS: usize = 256;
 
@@ -100,7 +100,7 @@ pub fn answers(tree: &[u32], rows: &[u8], width: usize) -> Vec<u8> {
     (0..recording.ticks()).map(|t| u8::from(runs.iter().any(|(i, j)| i < j && *j == t + 1))).collect()
 }
 
-/// 02, ticket 3: what is refused, in its order.
+/// What is refused, in the order of SPECIFICATION, "Refusals".
 pub fn judged(tree: &[u32], rows: &[u8], width: usize, answers: usize, work: usize) -> Result<usize, Refusal> {
     let refused = |number, place| Err(Refusal { number, place });
     let nodes = tree.len() / 5;

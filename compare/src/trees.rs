@@ -1,4 +1,4 @@
-//! Trees to compare by: all small ones, random ones of up to forty nodes, and every limit of document 01 from both sides.
+//! Trees to compare by: all small ones, random ones of up to forty nodes, and every limit of the specification from both sides.
 //!
 //! Operands stand before their node. Example: `delay(&atom(0), &atom(1), 1, 1)` has the fifteen words of `a ##1 b`.
 use crate::original::UNLIMITED;
@@ -261,6 +261,53 @@ fn operand_words(tree: &[u32], n: usize) -> impl Iterator<Item = usize> {
         _ => &[],
     };
     words.iter().map(move |word| 5 * n + word)
+}
+
+/// The sequence that a tree is, as the standard writes it; atoms are a to e, and from a5 on as a listing names them.
+/// Example: the fifteen words above are `a ##1 b`.
+pub fn sequence(tree: &[u32]) -> String {
+    node_text(tree, root(tree) as usize)
+}
+
+/// The sequence of a node.
+fn node_text(tree: &[u32], n: usize) -> String {
+    let [kind, p, q, min, max] = tree[5 * n..5 * n + 5] else { unreachable!("five words") };
+    match kind {
+        1 => atom_text(p),
+        2 => format!("{} ##{} {}", operand_text(tree, p, false), range_text(min, max, true), operand_text(tree, q, false)),
+        3 => format!("{}[*{}]", operand_text(tree, p, true), range_text(min, max, false)),
+        4 => format!("{}[->{min}]", operand_text(tree, p, true)),
+        5 => format!("{}[={min}]", operand_text(tree, p, true)),
+        6 => format!("{} throughout {}", atom_text(p), operand_text(tree, q, false)),
+        _ => format!("{} within {}", operand_text(tree, p, false), operand_text(tree, q, false)),
+    }
+}
+
+/// The sequence of an operand, in brackets unless it is an atom or, where it is not `repeated` itself, a repetition.
+fn operand_text(tree: &[u32], n: u32, repeated: bool) -> String {
+    let text = node_text(tree, n as usize);
+    match tree[5 * n as usize] {
+        1 => text,
+        3..=5 if !repeated => text,
+        _ => format!("({text})"),
+    }
+}
+
+fn atom_text(number: u32) -> String {
+    match number {
+        0..=4 => ["a", "b", "c", "d", "e"][number as usize].to_string(),
+        _ => format!("a{number}"),
+    }
+}
+
+/// One number or a range, which stands in brackets behind a `##`.
+fn range_text(min: u32, max: u32, bracketed: bool) -> String {
+    let most = if max == UNLIMITED { "$".to_string() } else { max.to_string() };
+    match (min == max, bracketed) {
+        (true, _) => most,
+        (false, true) => format!("[{min}:{most}]"),
+        (false, false) => format!("{min}:{most}"),
+    }
 }
 
 /// Several trees joined by delays as evenly as can be, so that the whole is not deep.

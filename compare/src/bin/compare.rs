@@ -76,11 +76,11 @@ impl Comparison {
         }
     }
 
-    /// A tree that 01 accepts: with the exact work and output, with one word less of either, with more of both.
+    /// A tree that the specification accepts: with the exact work and output, with one word less of either, with more of both.
     fn accepted(&mut self, tree: &[u32], work: usize, sizes: Sizes) -> Result<(), String> {
         let (out, more) = (sizes.words as usize, self.random.below(40));
         let Ok((counts, words)) = self.sva.lower(tree, work, out)? else {
-            return differ("refused here, accepted by 01's rules");
+            return differ("refused here, accepted by the specification's rules");
         };
         self.tally.accepted += 1;
         self.tally.words += words.len();
@@ -124,12 +124,12 @@ impl Comparison {
         Ok(())
     }
 
-    /// A tree that 01 refuses: number and place, and whether the original diagnoses where it has to.
+    /// A tree that the specification refuses: number and place, and whether the original diagnoses where it has to.
     fn refused(&mut self, tree: &[u32], work: usize, refusal: Refusal) -> Result<(), String> {
         self.tally.refused[refusal.number as usize] += 1;
         let answer = self.sva.lower(tree, work, 64)?;
         if answer.as_ref().err() != Some(&refusal) {
-            return differ(format!("{answer:?} here, {refusal:?} by 01's rules"));
+            return differ(format!("{answer:?} here, {refusal:?} by the specification's rules"));
         }
         let diagnosed_there = matches!(refusal.number, 4..=10 | 12);
         if !diagnosed_there && refusal.number != 13 {
@@ -274,7 +274,10 @@ impl Tally {
         }
         println!("of those refused with 4 to 10 or 12 the original diagnosed {}, panicked on {}", self.diagnosed, self.panicked);
         println!("13, and the original past its 65,536th register: {}", self.same_limit);
-        println!("too large for the original to be asked: {}; windows past 2^32, decided by 01: {}", self.not_asked, self.wrapping);
+        println!(
+            "too large for the original to be asked: {}; windows past 2^32, decided by the specification: {}",
+            self.not_asked, self.wrapping
+        );
         println!("listings of more than {WORDS} words, looked at for 14 alone: {}", self.too_long);
         println!("with a word less of work refused with 11: {}; of output, with 14: {}", self.short_work, self.short_output);
         println!("listings ticked: {}, ticks {}, of them matches {}", self.listings, self.ticks, self.matches);

@@ -1,5 +1,5 @@
 //! The deepest trees of every kind, accepted and refused, on a stack of just the bytes that `include/sva.h` promises to be enough, or of as
-//! many as the first argument says: what `sva_lower` answers is what document 01 does, and of the listings some ticks and stretches are
+//! many as the first argument says: what `sva_lower` answers is what the specification does, and of the listings some ticks and stretches are
 //! taken on the same stack; towers of 64 nodes are matched on it. Ends with the most bytes that a call wrote to.
 //!
 //! Seen with the code compiled for Arm: 64,384 bytes at most. Of the archive for x86-64 before it had the matcher, under an emulator, a
@@ -93,7 +93,7 @@ fn wide() -> Vec<Vec<u32>> {
     trees
 }
 
-/// One tree: its answer, by document 01; and of its listing a tick, and the stretches of the first and the last register.
+/// One tree: its answer, by the specification; and of its listing a tick, and the stretches of the first and the last register.
 fn seen(stack: &mut SmallStack, tree: &[u32], work: &mut [u32], out: &mut [u32]) -> Result<Counts, Refusal> {
     let expected = decided(tree, work.len(), out.len()).answer;
     let (number, counts, place) = stack.lower(tree, work, out);

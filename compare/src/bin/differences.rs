@@ -1,4 +1,4 @@
-//! What the original does with the smallest trees on which it and document 01 part, or might: a row each, as docs/DIFFERENCES.md has them. Then
+//! What the original does with the smallest trees on which it and the specification part, or might: a row each, as docs/DIFFERENCES.md has them. Then
 //! what lowering and the matcher do with those on which lowering and the standard part.
 use compare::commands;
 use compare::listing;

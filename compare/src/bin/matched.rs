@@ -1,5 +1,5 @@
 //! Asks the matcher of this project for trees of all kinds over random rows, and compares: its answers with those of `runs`, which decides by
-//! document 01's sentences, and of the plain matcher in C; with the match bits of the tree's listing, ticked from registers of 0, where
+//! the specification's sentences, and of the plain matcher in C; with the match bits of the tree's listing, ticked from registers of 0, where
 //! lowering accepts it and throughout stands on top; and its refusals. Stops at the first difference, with exit status 1.
 //!
 //! `--few` takes some thousand and lends buffers of their exact size, for a run under valgrind.
@@ -101,7 +101,7 @@ impl Comparison {
         }
         let lowered = self.sva.lower(&asked.tree, 16 * decided.most_entries as usize, sizes.words as usize)?;
         let Ok((Counts { registers, deepest, .. }, words)) = lowered else {
-            return Err("refused by lowering, accepted by 01's rules".to_string());
+            return Err("refused by lowering, accepted by the specification's rules".to_string());
         };
         let mut now = vec![0; registers];
         for (tick, atoms) in asked.rows.chunks_exact(asked.width).enumerate() {
@@ -158,7 +158,9 @@ impl Comparison {
         }
         let expected = judged.map(|_| runs::answers(&asked.tree, &asked.rows, asked.width));
         if given != expected {
-            return Err(format!("{given:?} here, {expected:?} by 02's rules with {answers} answers and {work} bytes of work"));
+            return Err(format!(
+                "{given:?} here, {expected:?} by the specification's rules with {answers} answers and {work} bytes of work"
+            ));
         }
         Ok(())
     }

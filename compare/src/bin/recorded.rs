@@ -1,25 +1,27 @@
-//! Writes the record of `crates/recorded_answers` into a folder: `stdin`, the trees, and `stdout`, what the original answered.
-//!
-//! `stdin` is little-endian words: how many trees; then of each how many words it has, and its words.
+//! Writes the recorded cases of `crates/trees_replayed` anew, into the folder that is named: the end of its `stdin`, the trees, and of its `stdout`,
+//! what the original answered. What stands before the first recorded case stays as it is.
 use compare::commands;
-use compare::recorded::{answer, trees};
+use compare::recorded::{answered, asked, cases, Case, MARK};
+use std::fs;
 use std::path::{Path, PathBuf};
+
+/// A file with the text of all cases in the place of those that it has.
+fn replace(file: &Path, cases: &[Case], text: fn(usize, &Case) -> String) {
+    let old = fs::read_to_string(file).expect("a file of cases");
+    let mut new: String = old.split_inclusive('\n').take_while(|line| !line.starts_with(MARK)).collect();
+    for (place, case) in cases.iter().enumerate() {
+        new += &text(place + 1, case);
+    }
+    fs::write(file, &new).expect("the file written");
+    println!("{}: {} bytes, {} before", file.display(), new.len(), old.len());
+}
 
 /// Both files.
 fn write(folder: &Path) {
-    let trees = trees();
-    let mut words = vec![trees.len() as u32];
-    let mut answers = String::new();
-    for tree in &trees {
-        words.push(tree.len() as u32);
-        words.extend(tree);
-        answers += &answer(tree);
-    }
-    let bytes: Vec<u8> = words.iter().flat_map(|word| word.to_le_bytes()).collect();
-    std::fs::write(folder.join("stdin"), &bytes).expect("stdin written");
-    std::fs::write(folder.join("stdout"), &answers).expect("stdout written");
-    let refused = answers.matches("refused").count();
-    println!("{} trees, {refused} of them refused; {} bytes in, {} bytes out", trees.len(), bytes.len(), answers.len());
+    let cases = cases();
+    replace(&folder.join("stdin"), &cases, asked);
+    replace(&folder.join("stdout"), &cases, answered);
+    println!("{} cases", cases.len());
 }
 
 fn main() {

@@ -1,10 +1,11 @@
-// Trees, read as text, lowered and answered as text: 01's cases, every kind of term after every kind of hop, every refusal. A new
-// case takes two lines and no proof.
+// Trees, read as text, lowered and answered as text: the cases of docs/SPECIFICATION.md, every kind of term after every kind of hop, every
+// refusal, and some three hundred trees that `recorded` in compare/ writes. A new case takes two lines and no proof.
 //
 // The file `stdin` has a case's name, and below it decimal numbers with blanks between them: the words of work and of output that are
 // lent, at most 1,052,672 and 164,224, and the tree's words, five a node. Empty lines and lines that begin with # are skipped. The
-// file `stdout` has the name and 01's text. Listings there were made by the original's `synth_seq_match`, compiled as it is; the
-// refusals' numbers and places are 01's. What is lent is filled before, and a line more says what is not as promised afterwards.
+// file `stdout` has the name and the text that the listing program prints. Listings there were made by the original's `synth_seq_match`,
+// compiled as it is; the refusals' numbers and places are those of "Refusals" in docs/SPECIFICATION.md. What is lent is filled before, and a
+// line more says what is not as promised afterwards.
 //
 // Example: `a ##1 b` and below it `32 8  1 0 0 0 0  1 1 0 0 0  2 0 1 1 1` print the name, `ok 1 8 2`, `seq 0 = a0 any` and
 // `match = r0 a1 any and`, a line each.
@@ -26,8 +27,8 @@ fn only(word: u32, words: &[u32], from: usize) -> bool {
     true
 }
 
-// Says so where it is not as promised: that work is all zero, the output past the words written is as it was, and these are as 01
-// describes.
+// Says what is not as promised: work is all zero, the output past the words written is as it was, and the words written are a listing as
+// described.
 fn inspect(words: usize, work: &[u32], out: &[u32])
     requires { ⌜ words ≤ length (now out) ⌝ }
 {
@@ -105,7 +106,7 @@ fn replay_tree(line: &[u8], work: &mut [u32], out: &mut [u32]) {
     );
 }
 
-// The same, with work for more entries than are ever taken, and the output for the longest listing of 01's cases.
+// A case's numbers, with work for more entries than are ever taken, and the output for the longest listing of the cases.
 fn replay_filled(line: &[u8]) {
     let mut work = [FILLED; 1052672];
     let mut out = [FILLED; 164224];

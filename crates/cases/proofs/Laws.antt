@@ -34,14 +34,14 @@ module _ {text : List ℕ} {from byte i : ℕ} (s : Seeking text from byte i) wh
       rw (drop-here text i h) (pick-false _ _ (ne-eqb _ _ other)) in
       record { behind = omega (arith, s .behind); inside = omega arith; rest = omega (arith, s .rest) }
 
-  -- The byte stands here.
+  -- The search ends where the byte stands.
   pub seeking-finds : i < length text → getD text i 0 ≡ byte → i ≡ next-place text from byte
   unfolding bytes-before
   seeking-finds h found =
       let here : bytes-before byte (drop i text) ≡ 0 = rw (drop-here text i h) (pick-true _ _ (eq-eqb _ _ found)) in
       omega (arith, s .rest)
 
-  -- It stands nowhere, and the text ends.
+  -- The search ends with the text, where the byte stands nowhere.
   pub seeking-ends : length text ≤ i → i ≡ next-place text from byte
   unfolding bytes-before
   seeking-ends h =
@@ -53,11 +53,11 @@ digit-added : (value : ℕ) {byte r : ℕ} → 48 ≤ byte → byte ≤ 57 → r
 unfolding with-digit
 digit-added value h k e = search tests
 
--- The longer number, where it is not too large ..
+-- A digit more makes the longer number, where it is not too large.
 pub digit-more : (value byte : ℕ) → 48 ≤ byte → byte ≤ 57 → value * 10 + (byte - 48) ≤ 4294967295 → value * 10 + (byte - 48) ≡ with-digit value byte
 digit-more value byte h k small = digit-added value h k (omega arith)
 
--- .. and the largest, where it is.
+-- A digit more makes the largest number, where the longer one is too large.
 pub digit-too-many : (value byte : ℕ) → 48 ≤ byte → byte ≤ 57 → 4294967295 < value * 10 + (byte - 48) → 4294967295 ≡ with-digit value byte
 digit-too-many value byte h k large = digit-added value h k (omega arith)
 
@@ -80,13 +80,13 @@ module _ {word : List ℕ} {value i : ℕ} (v : Valuing word value i) where
   unfolding number-behind
   valuing-ends h = sym (v .rest ∙ rw (drop-of-length-le word {i = i} h) refl)
 
--- A word without bytes has no number to put ..
+-- A word without bytes has no number to put.
 pub no-word : (word out : List ℕ) (place : ℕ) → length word ≡ 0 → Wrote out out place place (take (length out - place) (numbers-of-word word))
 unfolding numbers-of-word
 no-word [] out place h = same-words (sym (take-nil (length out - place))) (nothing-written out place)
 no-word (b ∷ bs) out place h = absurd (omega arith)
 
--- .. and where there is no room none is put.
+-- Where there is no room no number is put.
 pub no-room : (word out : List ℕ) (place : ℕ) → length out ≤ place → Wrote out out place place (take (length out - place) (numbers-of-word word))
 no-room word out place h =
     let e : length out - place ≡ 0 = omega arith in

@@ -1,8 +1,5 @@
-pub mod Registers
+pub mod Closings
+pub mod RootTexts
 pub mod Words
 pub mod Surveys
-pub mod Laws
-pub mod Keeping
-pub mod RootTexts
-pub mod Holding
-pub mod Looking
+pub mod Passes

@@ -1,3 +1,2 @@
-pub mod Alternatives
 pub mod RootText
-pub mod Passes
+pub mod ChoiceWords

@@ -87,7 +87,7 @@ module _ {map : List ℕ} {picture : ℕ → ℕ → ℕ} {rows : List ℕ} {tic
   unfolding entered
   came-in = getD-set-same rows (place-of tick) _ 0 (omega (arith, H .long))
 
-  -- The pixel that leaves is kept corrected ..
+  -- The pixel that leaves is kept corrected.
   kept-corrected : (s : ℕ) → tick ≡ s + 2 → pixel-at (rows-after map entered s) s ≡ corrected (names map) picture (row-of s) (column-of s)
   unfolding rows-after entered
   kept-corrected s e =
@@ -96,7 +96,7 @@ module _ {map : List ℕ} {picture : ℕ → ℕ → ℕ} {rows : List ℕ} {tic
       (λ n. still s (omega arith) (omega arith) ∙ H .waiting s (omega arith) (omega arith)
       ∙ sym (one-equation (names map) picture (row-of s) (column-of s) ∙ pick-false _ _ n))
 
-  -- .. and no other changes.
+  -- No pixel but the one that leaves changes.
   others-kept : (s u : ℕ) → (place-of s ≡ place-of u → ⊥) → pixel-at (rows-after map entered u) s ≡ pixel-at entered s
   unfolding rows-after
   others-kept s u n =
@@ -116,12 +116,12 @@ module _ {map : List ℕ} {picture : ℕ → ℕ → ℕ} {rows : List ℕ} {tic
     | no a ↦ still s (omega arith) (omega arith) ∙ H .waiting s (omega arith) (omega arith)
   ]
 
-  -- The rows at the next tick: nothing left yet ..
+  -- The rows hold what they should at the next tick, where nothing left yet.
   nothing-left : tick < 2 → Holding map picture entered (tick + 1)
   unfolding entered
   nothing-left h = record { long = simp length-set (H .long); waiting = waits; gone = λ s i j. absurd (omega arith) }
 
-  -- .. or the pixel of two ticks before did.
+  -- The rows hold what they should at the next tick, where the pixel of two ticks before left.
   one-left : (u : ℕ) → tick ≡ u + 2 → Holding map picture (rows-after map entered u) (tick + 1)
   one-left u e = record {
     long = length-after u;
@@ -148,7 +148,7 @@ module _ {map : List ℕ} {picture : ℕ → ℕ → ℕ} {rows : List ℕ} {tic
   unfolding entered
   step-leaves S h = S .leaves ∙ pick-false _ _ (le-ltb tick 2 h) ∙ leaving (tick - 2) (omega arith)
 
--- So it is after every tick of a frame.
+-- The rows hold what they should after every tick of a frame.
 held : {map : List ℕ} {picture : ℕ → ℕ → ℕ} {tick : ℕ} {rows : List ℕ} → Ran map picture tick rows → Holding map picture rows tick
 held (begun l) = record { long = l; waiting = λ s i j. absurd (omega arith); gone = λ s i j. absurd (omega arith) }
 held (ticked R S) = next-tick (held R) S

@@ -108,7 +108,7 @@ module _ {map : List ℕ} {reached row column : ℕ} (h : column < 752) (R : Rea
 pub nothing-reached : {map : List ℕ} → true ≡ ordered 0 map → Reached map 0 0
 nothing-reached o = record { inside = omega arith; ahead = sym o; behind = λ row column h k. refl }
 
--- Nor does any part at its end.
+-- No part at the end of a map in order from a tick on names a pixel that comes in before it.
 none-before-at-the-end : (map : List ℕ) (n from row column : ℕ) → column < 752 → row * 752 + column < from → ordered from map ≡ true
     → names (drop n map) row column ≡ false
 unfolding names
@@ -139,7 +139,7 @@ not-fewer {map} {reached} {more} {tick} R M h =
     let z : _≡_ {A = ℕ} 0 1 = cc in
     omega arith
 
--- So as many entries are reached, however one counts them.
+-- As many entries are reached, however one counts them.
 pub reached-once : {map : List ℕ} {r s tick : ℕ} → Reached map r tick → Reached map s tick → r ≡ s
 reached-once {r = r} {s = s} R S = elim (decLe r s) [
   | yes a ↦ elim (decLe s r) [ yes b ↦ omega arith | no b ↦ absurd (not-fewer R S (omega arith)) ]

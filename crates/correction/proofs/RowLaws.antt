@@ -67,7 +67,7 @@ module _ {map rows : List ℕ} {tick place pixel : ℕ} (e : place ≡ place-of 
       let s : tick - 2 ≡ tick + 1 - 2 = omega arith in
       record { leaves = sym (pick-true _ _ t); keeps = sym (pick-true _ _ t ∙ rw (← e) refl); reaches = rw s at R }
 
-  -- From then on the pixel of two ticks before leaves.
+  -- From the third tick on the pixel of two ticks before leaves.
   pub the-one-before-leaves : {after : List ℕ} {given : Output} → 2 ≤ tick → Left map (set rows place pixel) after (tick - 2) given
       → Stepped map rows after tick pixel given
   the-one-before-leaves h L =

@@ -55,7 +55,7 @@ pub fn row_of(tick: u32) -> u32
     tick / COLUMNS
 }
 
-// Its column.
+// The column of the pixel that comes in at a tick.
 pub fn column_of(tick: u32) -> u32
     ensures { λ r. ⌜ r ≡ column-of tick ⌝ }
 {

@@ -5,12 +5,12 @@ use Prim.Native.Nat.{ℕ, zero, suc, _+_, _*_, _≤_}
 use native.Mathlib.Nat.{mul-le-mul}
 use native.Mathlib.Omega.{arith}
 use lib.Dec.{ltb}
-use borrow.Author.Tests.{ltb-false}
+use borrow.Author.Tests.{ltb-false, le-ltb}
 use mir.Val.{Fits}
 use mir.Syntax.{w64}
-use Rattle.words.specs.Choice.{pick-case}
+use Rattle.words.specs.Choice.{pick, pick-case}
 use Rattle.meaning.specs.declared.Counts.{Counts}
-use Rattle.count.specs.Capped.{capped, Small, product, sum, copied, summed, not-plain}
+use Rattle.count.specs.Capped.{neutral, capped, Small, product, sum, copied, summed}
 
 -- Whatever the numbers were.
 capped-is-small : (a e : ℕ) (plain guarded : Bool) → Small (capped a e plain guarded)
@@ -30,11 +30,15 @@ module _ (l r : Counts) {c : Counts} where
   unfolding sum
   sum-is-small e = rw e (capped-is-small _ _ _ _)
 
--- The flags do not matter.
-pub not-plain-is-small : (c : Counts) {d : Counts} → Small c → d ≡ not-plain c → Small d
-not-plain-is-small c s e = rw e (record { few = s .few; short = s .short })
+-- What is within the bounds of 10 and 11 is not changed by the neutral counts.
+pub neutral-product : (s : Counts) → s .alternatives ≤ 256 → s .entries ≤ 65536 → product neutral s ≡ s
+unfolding product capped pick
+neutral-product s few fits =
+    let a : 1 * s .alternatives ≡ s .alternatives = omega arith in
+    let e : 0 * s .alternatives + 1 * s .entries ≡ s .entries = omega arith in
+    rw (a, e, le-ltb _ _ few, le-ltb _ _ fits) refl
 
--- However many copies are made, and however many are summed up.
+-- Copies of small counts are small, however many are made, and so are their sums, however many are summed up.
 copied-small : (base copies : Counts) (k : ℕ) → Small copies → Small (copied base copies k)
 unfolding copied
 copied-small base copies zero s = s
@@ -45,15 +49,15 @@ unfolding summed
 summed-small base total copies zero s = s
 summed-small base total copies (suc count) s = summed-small base (sum total copies) (product copies base) count (sum-is-small total copies refl)
 
--- The same, of what the code has under another name.
+-- What the code names as copies is small.
 pub copied-is-small : (base : Counts) (k : ℕ) {c : Counts} → Small base → c ≡ copied base base k → Small c
 copied-is-small base k s e = rw e (copied-small base base k s)
 
--- From nothing on.
+-- What the code names as the sum of copies is small.
 pub summed-is-small : (base total first : Counts) (count : ℕ) {c : Counts} → Small total → c ≡ summed base total first count → Small c
 summed-is-small base total first count s e = rw e (summed-small base total first count s)
 
--- The products of small counts fit 64 bits ..
+-- The products of small counts fit 64 bits.
 module _ (l r : Counts) (s : Small l) (q : Small r) where
   pub pairs-fit : Fits w64 (l .alternatives * r .alternatives)
   pairs-fit = let p : l .alternatives * r .alternatives ≤ 257 * 257 = mul-le-mul (s .few) (q .few) in omega arith
@@ -69,7 +73,7 @@ module _ (l r : Counts) (s : Small l) (q : Small r) where
       let p : l .entries * r .alternatives ≤ 65537 * 257 = mul-le-mul (s .short) (q .few) in
       let p′ : l .alternatives * r .entries ≤ 257 * 65537 = mul-le-mul (s .few) (q .short) in omega arith
 
--- .. and so do their multiples by 2^32 hops.
+-- The multiples of small counts by 2^32 hops fit 64 bits.
 module _ (hops : ℕ) (c : Counts) (h : hops ≤ 4294967296) (s : Small c) where
   pub alternatives-of-hops-fit : Fits w64 (hops * c .alternatives)
   alternatives-of-hops-fit = let p : hops * c .alternatives ≤ 4294967296 * 257 = mul-le-mul h (s .few) in omega arith

@@ -3,4 +3,5 @@ pub mod Leaves
 pub mod Stands
 pub mod NotVisited
 pub mod Walking
+pub mod Joining
 pub mod AtRoot

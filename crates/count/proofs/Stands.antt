@@ -10,7 +10,6 @@ use lib.Dec.{ltb}
 use lib.ListN.{length}
 use borrow.Author.Tests.{ltb-true, ltb-false, lt-ltb, ne-eqb}
 use Rattle.words.specs.Choice.{pick, pick-case, pick-cong, pick-true}
-use Rattle.words.proofs.Taken.{no-test}
 use Rattle.meaning.specs.Tree.{finite, unbounded, below}
 use Rattle.meaning.specs.Alternative.{SeqAlt, single, join-lefts, join-hops, hops, copies, copies-from, with-empty, consec-finite, guard-each}
 use Rattle.meaning.specs.Refusals.{entries, is-bool, plain, guarded, counts, limited}
@@ -51,7 +50,7 @@ stopped {a} {e} a′ e′ p g same = pick-case Is (ltb 256 a′) (λ q. over sam
     within : Same a e a′ e′ → a′ ≤ 256 → e′ ≤ 65536 → Same a e a′ e′
     within s q z = s
 
--- .. and leaves the flags as they are.
+-- Capping leaves the flags as they are.
 capped-flags : (a e : ℕ) (p g : Bool) → (capped a e p g .plain ≡ p) × (capped a e p g .guarded ≡ g)
 unfolding capped
 capped-flags a e p g = pick-case Kept (ltb 256 a) (λ _. (refl, refl)) (λ _. pick-case Kept (ltb 65536 e) (λ _. (refl, refl)) (λ _. (refl, refl)))
@@ -90,7 +89,7 @@ module _ {a e a′ e′ b f b′ f′ : ℕ} (some-a : 1 ≤ a) (some-b : 1 ≤ 
   same-products (exact i j) (large m k k′) = large (rw (i, m) refl) (large-right _ k some-a) (large-right _ k′ (rw i at some-a))
   same-products (exact i j) (exact k l) = exact (rw (i, k) refl) (rw (i, j, k, l) refl)
 
--- So do sums ..
+-- Sums of numbers that decide the same decide the same.
 same-sums : {a e a′ e′ b f b′ f′ : ℕ} → Same a e a′ e′ → Same b f b′ f′ → Same (a + b) (e + f) (a′ + b′) (e′ + f′)
 same-sums (many h h′) y = many (omega arith) (omega arith)
 same-sums (large i h h′) (many k k′) = many (omega arith) (omega arith)
@@ -100,13 +99,13 @@ same-sums (exact i j) (many k k′) = many (omega arith) (omega arith)
 same-sums (exact i j) (large m k k′) = large (omega arith) (omega arith) (omega arith)
 same-sums (exact i j) (exact k l) = exact (omega arith) (omega arith)
 
--- .. and multiples.
+-- Multiples of numbers that decide the same decide the same.
 same-multiples : {a e a′ e′ : ℕ} (n : ℕ) → 1 ≤ n → Same a e a′ e′ → Same (n * a) (n * e) (n * a′) (n * e′)
 same-multiples n some (many h h′) = many (past-right some h) (past-right some h′)
 same-multiples n some (large i h h′) = large (rw i refl) (past-right some h) (past-right some h′)
 same-multiples n some (exact i j) = exact (rw i refl) (rw j refl)
 
--- The counts stand for these alternatives.
+-- The counts stand for the alternatives.
 pub record Stands (c : Counts) (alts : List SeqAlt) : Type 0 where
   pub numbers : Same (length alts) (entries alts) (c .alternatives) (c .entries)
   pub plainly : c .plain ≡ plain alts
@@ -117,18 +116,18 @@ pub counts-stand : {c : Counts} {alts : List SeqAlt} → c ≡ counts alts → S
 unfolding counts
 counts-stand e = record { numbers = exact (sym (ap (λ (c : Counts). c .alternatives) e)) (sym (ap (λ (c : Counts). c .entries) e)); plainly = ap (λ (c : Counts). c .plain) e; guardedly = ap (λ (c : Counts). c .guarded) e }
 
--- Capped numbers do, where the numbers decide the same.
+-- Capped numbers stand for alternatives, where the numbers decide the same as theirs.
 capped-stands : {alts : List SeqAlt} {a e : ℕ} {p g : Bool} → Same (length alts) (entries alts) a e → p ≡ plain alts → g ≡ guarded alts → Stands (capped a e p g) alts
 capped-stands {alts} {a} {e} {p} {g} same pl gu = record { numbers = stopped a e p g same; plainly = flags .0 ∙ pl; guardedly = flags .1 ∙ gu }
   where
     flags : (capped a e p g .plain ≡ p) × (capped a e p g .guarded ≡ g)
     flags = capped-flags a e p g
 
--- The same decision for numbers that are equal.
+-- Equal numbers decide the same.
 along : {a e b f a′ e′ : ℕ} → a ≡ b → e ≡ f → Same b f a′ e′ → Same a e a′ e′
 along i j s = rw (i, j) s
 
--- What 10 and 11 decide by capped counts is what they decide by the numbers ..
+-- 10 and 11 decide by counts what they decide by numbers that decide the same.
 limit-same : (room n : ℕ) {a e : ℕ} {p g : Bool} {c : Counts} → room ≤ 65536 → Same a e (c .alternatives) (c .entries) → c .plain ≡ p → c .guarded ≡ g
     → limit room n c ≡ limit room n (counts-of a e p g)
 unfolding limit
@@ -140,11 +139,11 @@ limit-same room n {a} {e} {p} {g} {c} h (large i k k′) q z =
 limit-same room n {a} {e} {p} {g} {c} h (exact i j) q z =
     let is : c ≡ counts-of a e p g = λ k. counts-of (sym i k) (sym j k) (q k) (z k) in rw is refl
 
--- .. so that they may be capped ..
+-- 10 and 11 decide by capped numbers what they decide by the numbers.
 pub limit-capped : (room n a e : ℕ) (p g : Bool) → room ≤ 65536 → limit room n (capped a e p g) ≡ limit room n (counts-of a e p g)
 limit-capped room n a e p g h = limit-same room n h (stopped a e p g (exact refl refl)) (capped-flags a e p g .0) (capped-flags a e p g .1)
 
--- .. and by the list for which they stand.
+-- 10 and 11 decide by counts what they decide by the list for which the counts stand.
 pub limit-stands : (room n : ℕ) {c : Counts} {alts : List SeqAlt} → room ≤ 65536 → Stands c alts → limit room n c ≡ limited room n alts
 unfolding limit limited counts
 limit-stands room n h s = limit-same room n h (s .numbers) (s .plainly) (s .guardedly)
@@ -177,19 +176,19 @@ pub other-term-stands : (x : SeqTerm) → is-bool x ≡ false → Stands other-t
 unfolding pick
 other-term-stands x e = record { numbers = exact refl refl; plainly = rw e refl; guardedly = refl }
 
--- With the Empty of a minimum of 0.
+-- Counts with the Empty of a minimum of 0 stand for the alternatives with it.
 pub with-empty-stands : (m : ℕ) {c : Counts} {alts : List SeqAlt} → Stands c alts → Stands (empty-counted m c) (with-empty m alts)
 unfolding empty-counted pick
 with-empty-stands zero s = sum-stands (other-term-stands Empty refl) s
 with-empty-stands (suc m) s = rw (ne-eqb (suc m) 0 (λ e. omega arith)) s
 
--- What a product holds besides its bounds.
+-- The numbers of a product decide the same as those of the joined lists.
 product-numbers : {ls rs : List SeqAlt} (l r : Counts) → Stands l ls → Stands r rs → 1 ≤ length ls → 1 ≤ length rs
     → Same (length ls * length rs) (entries ls * length rs + length ls * entries rs) (product l r .alternatives) (product l r .entries)
 unfolding product
 product-numbers l r x y some-l some-r = stopped _ _ _ _ (same-products some-l some-r (x .numbers) (y .numbers))
 
--- Its flags are joined and not capped.
+-- The flags of a product are joined and not capped.
 product-plain : (l r : Counts) → product l r .plain ≡ pick (l .plain) (r .plain) false
 unfolding product
 product-plain l r = capped-flags _ _ _ _ .0
@@ -203,13 +202,13 @@ module _ (base : List SeqAlt) (b : Counts) (stands : Stands b base) (some : 1 �
   one-copy-more : (j : ℕ) {x : Counts} → Stands x (copies base j) → Stands (product x b) (copies base (suc j))
   one-copy-more j s = product-stands 1 s stands (some-copies base j some) some led
 
-  -- k copies more ..
+  -- Counts that stand for copies stand for k copies more.
   copied-stands : (j k : ℕ) {x : Counts} → Stands x (copies base j) → Stands (copied b x k) (copies base (k + j))
   unfolding copied
   copied-stands j zero s = let e : 0 + j ≡ j = omega arith in rw e s
   copied-stands j (suc k) s = let e : suc k + j ≡ k + suc j = omega arith in rw e (copied-stands (suc j) k (one-copy-more j s))
 
-  -- .. and their sum.
+  -- The sum of counts that stand for copies stands for the copies in a row.
   summed-stands : (j count : ℕ) {total x : Counts} {xs : List SeqAlt} → Stands total xs → Stands x (copies base j)
       → Stands (summed b total x count) (xs ++ copies-from base j count)
   unfolding summed
@@ -224,7 +223,7 @@ module _ (base : List SeqAlt) (b : Counts) (stands : Stands b base) (some : 1 �
       let first = let e : below m + 0 ≡ below m = omega arith in rw e at (copied-stands 0 (below m) stands) in
       with-empty-stands m (summed-stands (below m) (suc x - below m) nothing-stands first)
 
--- A delay by each fixed hop from m to x ..
+-- The counts of a delay stand for its operands joined by each fixed hop from m to x.
 module _ (ls rs : List SeqAlt) (l r : Counts) (s : Stands l ls) (q : Stands r rs) (some-l : 1 ≤ length ls) (some-r : 1 ≤ length rs) (led : AllLed rs) where
   pub fixed-stands : (m x : ℕ) → m ≤ x → Stands (times (x - m + 1) (product l r)) (join-hops (hops m (finite x)) ls rs)
   unfolding times
@@ -238,20 +237,20 @@ module _ (ls rs : List SeqAlt) (l r : Counts) (s : Stands l ls) (q : Stands r rs
       (product-plain l r ∙ rw (s .plainly, q .plainly) (sym (plain-delay ls rs some-l some-r m x range led)))
       (product-guarded l r ∙ rw (s .guardedly, q .guardedly) (sym (guarded-delay ls rs some-l some-r m (finite x) range)))
 
-  -- .. and by one "at least" hop.
-  pub at-least-stands : (m : ℕ) → Stands (product l (not-plain r)) (join-hops (hops m unbounded) ls rs)
-  unfolding product
+  -- The product, not plain, stands for the operands joined by one "at least" hop.
+  pub at-least-stands : (m : ℕ) → Stands (not-plain (product l r)) (join-hops (hops m unbounded) ls rs)
   at-least-stands m =
       let t = tally-delay m unbounded ls rs in
-      let p = same-products some-l some-r (s .numbers) (q .numbers) in
-      capped-stands (along (ap alternatives-of t ∙ once _) (ap entries-of t ∙ once _) p)
-      (no-test (l .plain) ∙ sym (at-least-is-not-plain ls rs some-l some-r m led))
-      (rw (s .guardedly, q .guardedly) (sym (guarded-delay ls rs some-l some-r m unbounded tt)))
+      record {
+        numbers = along (ap alternatives-of t ∙ once _) (ap entries-of t ∙ once _) (product-numbers l r s q some-l some-r);
+        plainly = sym (at-least-is-not-plain ls rs some-l some-r m led);
+        guardedly = product-guarded l r ∙ rw (s .guardedly, q .guardedly) (sym (guarded-delay ls rs some-l some-r m unbounded tt));
+      }
     where
       once : (n : ℕ) → 1 * n ≡ n
       once n = omega arith
 
--- A throughout.
+-- The guarded counts of a throughout's operand stand for its guarded alternatives.
 pub guarded-each-stands : (c : ℕ) (alts : List SeqAlt) (s : Counts) → Stands s alts → 1 ≤ length alts → Stands (guarded-each s) (guard-each c alts)
 unfolding guarded-each
 guarded-each-stands c alts s q some =

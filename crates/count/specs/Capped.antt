@@ -11,9 +11,12 @@ use Rattle.meaning.specs.declared.Counts.{Counts}
 abbrev pub counts-of : ℕ → ℕ → Bool → Bool → Counts
 counts-of alternatives entries plain guarded = record { alternatives = alternatives; entries = entries; plain = plain; guarded = guarded }
 
--- No alternative; one of a Bool term; one of any other term.
+-- No alternative; one with nothing in it, which joined with others leaves them as they are; one of a Bool term; one of any other term.
 abbrev pub nothing : Counts
 nothing = counts-of 0 0 true false
+
+abbrev pub neutral : Counts
+neutral = counts-of 1 0 true false
 
 abbrev pub bool-term : Counts
 bool-term = counts-of 1 1 true false
@@ -28,12 +31,12 @@ capped alternatives entries plain guarded =
     (counts-of 257 0 plain guarded)
     (pick (ltb 65536 entries) (counts-of alternatives 65537 plain guarded) (counts-of alternatives entries plain guarded))
 
--- What is within these bounds: the sums and products of two such are far below 2^64.
+-- Counts within the bounds of `capped`: the sums and products of two are far below 2^64.
 pub record Small (c : Counts) : Type 0 where
   pub few : c .alternatives ≤ 257
   pub short : c .entries ≤ 65537
 
--- 01: "counts multiply", every left with every right, for one hop.
+-- SPECIFICATION, "Alternatives": "as many alternatives as hops times lefts times rights", every left with every right, for one hop.
 unfoldable pub product : Counts → Counts → Counts
 product l r =
     capped (l .alternatives * r .alternatives) (l .entries * r .alternatives + l .alternatives * r .entries) (pick (l .plain) (r .plain) false)
@@ -44,21 +47,21 @@ unfoldable pub sum : Counts → Counts → Counts
 sum l r =
     capped (l .alternatives + r .alternatives) (l .entries + r .entries) (pick (l .plain) (r .plain) false) (pick (l .guarded) true (r .guarded))
 
--- The same, once for each of several hops.
+-- A list of alternatives once for each of several hops.
 unfoldable pub times : ℕ → Counts → Counts
 times hops c = capped (hops * c .alternatives) (hops * c .entries) (c .plain) (c .guarded)
 
--- k copies of the base more than these.
+-- Copies of the base, and k more joined to them.
 unfoldable pub copied : Counts → Counts → ℕ → Counts
 copied base copies zero = copies
 copied base copies (suc k) = copied base (product copies base) k
 
--- The total, then these copies, then one copy more, and so on, count times.
+-- The total, then the copies, then one copy more, and so on, count times.
 unfoldable pub summed : Counts → Counts → Counts → ℕ → Counts
 summed base total copies zero = total
 summed base total copies (suc count) = summed base (sum total copies) (product copies base) count
 
--- 01: "Empty first if m is 0".
+-- SPECIFICATION, "Alternatives": "if m is 0, Empty comes first".
 unfoldable pub with-empty : ℕ → Counts → Counts
 with-empty m c = pick (eqb m 0) (sum other-term c) c
 
@@ -66,6 +69,6 @@ with-empty m c = pick (eqb m 0) (sum other-term c) c
 abbrev pub not-plain : Counts → Counts
 not-plain c = counts-of (c .alternatives) (c .entries) false (c .guarded)
 
--- 01, throughout: "the guard gains the condition", one entry more for each alternative.
+-- SPECIFICATION, "Alternatives", throughout: "the guard of each gains the condition", one entry more for each alternative.
 unfoldable pub guarded-each : Counts → Counts
 guarded-each c = capped (c .alternatives) (c .entries + c .alternatives) (c .plain) true

@@ -1,20 +1,29 @@
 // The walk from the root, which counts alternatives and entries before anything is built: refusals 4 to 11, number and
-// place (01, "What is said no to").
+// place (SPECIFICATION, "Refusals"). What it counts at a node it notes in the outline, which is read when alternatives are written.
 //
 // Example: `a ##[0:255] b` counts 256 alternatives and 512 entries; of `a ##[0:256] b` the walk answers Refused(10, 2).
 ghost use mathlib.Core.Path.{_≡_};
 ghost use mathlib.Core.Bool.{true};
-ghost use Prim.Native.Nat.{_≤_};
+ghost use Prim.Native.Nat.{_+_, _*_, _≤_, _<_};
+ghost use lib.ListN.{length};
 ghost use Rattle.words.specs.Choice.{pick};
-ghost use Rattle.meaning.specs.Tree.{below, node-at, tree-at, root};
+ghost use Rattle.meaning.specs.Tree.{node-at, tree-at, nodes, root};
 ghost use Rattle.meaning.specs.Refusals.{walk, walk-root, room-of};
 ghost use Rattle.meaning.specs.Lowerable.{FormedTable};
+ghost use Rattle.outline.specs.Outline.{noted, WhereCounted, Notes, KnownRoot};
 ghost use Rattle.count.specs.Capped.{nothing, capped, Small, product, sum, times, copied, summed, with-empty, not-plain, guarded-each};
-ghost use Rattle.count.specs.Nodes.{Countable, Unvisited, limit, delay-counts, consec-counts, repeated, covered, over-node, is-repeated, visits-one, only-operand, unvisited, fits-within, paired};
+ghost use Rattle.count.specs.Nodes.{Countable, IsWithin, OperandsKnown, WordsOf, Answerable, Unvisited, limit, delay-counts, consec-counts, repeated, covered, over-node, unvisited, unrepeated, answer, left-of, visits, operand-at, fits-within, paired};
 
-// No alternative; one of a Bool term; one of any other term.
+// No alternative; one with nothing in it, which joined with others leaves them as they are; one of a Bool term; one of any other term.
 const NOTHING: meaning::Counts = meaning::Counts {
     alternatives: 0,
+    entries: 0,
+    plain: true,
+    guarded: false,
+};
+
+const NEUTRAL: meaning::Counts = meaning::Counts {
+    alternatives: 1,
     entries: 0,
     plain: true,
     guarded: false,
@@ -97,7 +106,7 @@ fn sum(l: meaning::Counts, r: meaning::Counts) -> meaning::Counts
     capped(alternatives, entries, plain, guarded)
 }
 
-// The same once for each of several hops: multiplied, not counted out.
+// A list of alternatives once for each of several hops: multiplied, not counted out.
 fn times(hops: u64, c: meaning::Counts) -> meaning::Counts
     requires { ⌜ (hops ≤ 4294967296) × Small c ⌝ }
     ensures { λ r. ⌜ r ≡ times hops c ⌝ }
@@ -121,7 +130,7 @@ fn copied(base: meaning::Counts, k: u32) -> meaning::Counts
     copies
 }
 
-// These copies, then one copy more, and so on, count times.
+// The first copies, then one copy more, and so on, count times.
 fn summed(base: meaning::Counts, first: meaning::Counts, count: u32) -> meaning::Counts
     requires { ⌜ Small base × Small first ⌝ }
     ensures { λ r. ⌜ r ≡ summed base nothing first count ⌝ }
@@ -173,39 +182,15 @@ fn limited(room: u32, n: u32, c: meaning::Counts) -> meaning::Walked
     meaning::Walked::Counted(c)
 }
 
-// One "at least" hop for $, else each fixed hop from min to max.
-fn delay_counts(v: meaning::Node, l: meaning::Counts, r: meaning::Counts) -> meaning::Counts
-    requires { ⌜ (v .min ≤ v .max) × Small l × Small r ⌝ }
-    ensures { λ c. ⌜ c ≡ delay-counts v l r ⌝ }
+// A delay of operands that one hop joins to c: one "at least" hop for $, else each fixed hop from min to max.
+fn delay_counts(v: meaning::Node, c: meaning::Counts) -> meaning::Counts
+    requires { ⌜ (v .min ≤ v .max) × Small c ⌝ }
+    ensures { λ r. ⌜ r ≡ delay-counts v c ⌝ }
 {
     if v.max == tree::UNLIMITED {
-        return product(l, not_plain(r));
+        return not_plain(c);
     }
-    times((v.max - v.min) as u64 + 1, product(l, r))
-}
-
-// A delay's 10 and 11.
-fn delayed(
-    room: u32,
-    n: u32,
-    v: meaning::Node,
-    l: meaning::Counts,
-    r: meaning::Counts,
-) -> meaning::Walked
-    requires { ⌜ (v .min ≤ v .max) × Small l × Small r ⌝ }
-    ensures { λ z. ⌜ z ≡ limit room n (delay-counts v l r) ⌝ }
-{
-    limited(room, n, delay_counts(v, l, r))
-}
-
-// One less, from 0 on.
-fn below(m: u32) -> u32
-    ensures { λ r. ⌜ r ≡ below m ⌝ }
-{
-    if m == 0 {
-        return 0;
-    }
-    m - 1
+    times((v.max - v.min) as u64 + 1, c)
 }
 
 // max(m,1) up to n copies.
@@ -213,7 +198,7 @@ fn consec_counts(v: meaning::Node, s: meaning::Counts) -> meaning::Counts
     requires { ⌜ (v .min ≤ v .max) × Small s ⌝ }
     ensures { λ c. ⌜ c ≡ consec-counts v s ⌝ }
 {
-    let k = below(v.min);
+    let k = words::one_less(v.min);
     let first = copied(s, k);
     let all = summed(s, first, v.max - k);
     with_empty(v.min, all)
@@ -258,40 +243,10 @@ fn over_node(room: u32, n: u32, v: meaning::Node, under: meaning::Node) -> meani
     if 256 < v.min {
         return meaning::Walked::Refused(5, n);
     }
-    if under.kind != 1 {
+    if under.kind != meaning::kind::ATOM {
         return meaning::Walked::Refused(6, n);
     }
     limited(room, n, with_empty(v.min, OTHER_TERM))
-}
-
-// Whether v is a finite [*] other than [*0]: of the repetitions, only its operand is visited.
-fn is_repeated(v: meaning::Node) -> bool
-    ensures { λ r. ⌜ r ≡ is-repeated v ⌝ }
-{
-    tree::both(
-        v.kind == 3,
-        tree::both(v.max != 0, v.max != tree::UNLIMITED),
-    )
-}
-
-// Whether v has one operand that is visited: that of a throughout, or of such a [*].
-fn visits_one(v: meaning::Node) -> bool
-    ensures { λ r. ⌜ r ≡ visits-one v ⌝ }
-{
-    if v.kind == 6 {
-        return true;
-    }
-    is_repeated(v)
-}
-
-// That operand.
-fn only_operand(v: meaning::Node) -> u32
-    ensures { λ r. ⌜ r ≡ only-operand v ⌝ }
-{
-    if v.kind == 6 {
-        return v.q;
-    }
-    v.p
 }
 
 // 8, and the kinds whose operand is not visited: atom, goto, nonconsecutive, [*0] and [*m:$].
@@ -299,49 +254,106 @@ fn unvisited(t: &[u32], n: u32, room: u32, v: meaning::Node) -> meaning::Walked
     requires { ⌜ Unvisited (now t) n v ⌝ }
     ensures { λ r. ⌜ r ≡ unvisited room n v (node-at (now (t .entry)) (v .p)) ⌝ }
 {
-    if v.kind == 7 {
+    if v.kind == meaning::kind::WITHIN {
         return meaning::Walked::Refused(8, n);
     }
-    if v.kind == 1 {
+    if v.kind == meaning::kind::ATOM {
         return limited(room, n, BOOL_TERM);
     }
-    if tree::both(v.kind == 3, v.max == 0) {
+    if tree::both(v.kind == meaning::kind::CONSECUTIVE, v.max == 0) {
         return limited(room, n, OTHER_TERM);
     }
     over_node(room, n, v, tree::read(t, v.p))
 }
 
-// The walk below node n, the node included. By recursion on the node number: operands are lower.
-pub fn walked(t: &[u32], n: u32, room: u32, depth: u32) -> meaning::Walked
-    requires { ⌜ Countable (now t) n room depth ⌝ }
+// The answer of a node that is no finite [*] other than [*0], from the counts of its visited operands.
+fn unrepeated(t: &[u32], n: u32, room: u32, v: meaning::Node, c: meaning::Counts) -> meaning::Walked
+    requires { ⌜ WordsOf (now t) n v × Small c ⌝ }
+    ensures { λ r. ⌜ r ≡ unrepeated room n v (node-at (now (t .entry)) (v .p)) c ⌝ }
+{
+    if v.kind == meaning::kind::DELAY {
+        return limited(room, n, delay_counts(v, c));
+    }
+    if v.kind == meaning::kind::THROUGHOUT {
+        return covered(room, n, c);
+    }
+    unvisited(t, n, room, v)
+}
+
+// The answer of node n from the counts of its visited operands, joined by one hop; its word is noted.
+fn answered(
+    t: &[u32],
+    n: u32,
+    room: u32,
+    c: meaning::Counts,
+    outline: &mut [u32],
+) -> meaning::Walked
+    requires { ⌜ Answerable (now t) (now outline) n × Small c ⌝ }
+    ensures { λ r. ⌜ r ≡ answer room n (node-at (now (t .entry)) n) (node-at (now (t .entry)) (node-at (now (t .entry)) n .p)) c ⌝ }
+    ensures kept { λ r. ⌜ now (outline .exit) ≡ noted (now (outline .entry)) n (left-of (now (outline .entry)) n (node-at (now (t .entry)) n)) r ⌝ }
+{
+    let v = tree::read(t, n);
+    if outline::is_repeated(v) {
+        let bare = outline::bare_copies(outline, v, n);
+        return outline::noted(outline, n, bare, repeated(room, n, v, c));
+    }
+    outline::noted(outline, n, n, unrepeated(t, n, room, v, c))
+}
+
+// How many operands of node n are visited: both of a delay, that of a throughout or of a finite [*] other than [*0].
+fn visits(t: &[u32], n: u32) -> u32
+    requires { ⌜ (n * 5 + 5 ≤ length (now t)) × (n < 4096) ⌝ }
+    ensures { λ r. ⌜ r ≡ visits (node-at (now (t .entry)) n) ⌝ }
+{
+    let v = tree::read(t, n);
+    if v.kind == meaning::kind::DELAY {
+        return 2;
+    }
+    if v.kind == meaning::kind::THROUGHOUT {
+        return 1;
+    }
+    if outline::is_repeated(v) {
+        return 1;
+    }
+    0
+}
+
+// The k-th operand of node n that is visited, from 0 on: left before right.
+fn operand(t: &[u32], n: u32, k: u32) -> u32
+    requires { ⌜ (n * 5 + 5 ≤ length (now t)) × (n < 4096) ⌝ }
+    ensures { λ r. ⌜ r ≡ operand-at (node-at (now (t .entry)) n) k ⌝ }
+{
+    let v = tree::read(t, n);
+    if k == 1 {
+        return v.q;
+    }
+    if v.kind == meaning::kind::THROUGHOUT {
+        return v.q;
+    }
+    v.p
+}
+
+// The walk below node n, the node included. By recursion on the node number: operands are lower. The operands are walked from one
+// place, and the node is read again behind each, so that a level of the tree keeps few words on the stack.
+pub fn walked(t: &[u32], n: u32, room: u32, depth: u32, outline: &mut [u32]) -> meaning::Walked
+    requires { ⌜ Countable (now t) n room depth × (nodes (now t) ≤ length (now outline)) ⌝ }
     ensures { λ r. ⌜ r ≡ walk room depth (tree-at (now (t .entry)) n) ⌝ }
+    ensures noted { λ r. ⌜ WhereCounted r (Notes (now (t .entry)) n (now (outline .entry)) (now (outline .exit))) ⌝ }
 {
     if 256 < depth {
         return meaning::Walked::Refused(4, n);
     }
-    let v = tree::read(t, n);
-    if v.kind == 2 {
-        let left = walked(t, v.p, room, depth + 1);
-        let meaning::Walked::Counted(l) = left else {
-            return left;
-        };
-        let right = walked(t, v.q, room, depth + 1);
-        let meaning::Walked::Counted(r) = right else {
-            return right;
-        };
-        return delayed(room, n, v, l, r);
-    }
-    if visits_one(v) {
-        let under = walked(t, only_operand(v), room, depth + 1);
+    let mut c = NEUTRAL;
+    let mut k = 0;
+    while k < visits(t, n) {
+        let under = walked(t, operand(t, n, k), room, depth + 1, outline);
         let meaning::Walked::Counted(s) = under else {
             return under;
         };
-        if v.kind == 6 {
-            return covered(room, n, s);
-        }
-        return repeated(room, n, v, s);
+        c = product(c, s);
+        k += 1;
     }
-    unvisited(t, n, room, v)
+    answered(t, n, room, c, outline)
 }
 
 // 9 of one operand of a root within.
@@ -375,24 +387,35 @@ fn room_of(work: usize) -> u32
     room as u32
 }
 
-// The walk from the root, which alone may be a within; its operands have depth 1 too.
-pub fn walked_root(t: &[u32], work: usize) -> meaning::Walked
-    requires { ⌜ FormedTable (now t) ⌝ }
-    ensures { λ r. ⌜ r ≡ walk-root (room-of work) (root (now (t .entry))) ⌝ }
+// The walk of a root within: both operands, which have depth 1 too, and then their pairs.
+fn walked_within(t: &[u32], n: u32, room: u32, outline: &mut [u32]) -> meaning::Walked
+    requires { ⌜ IsWithin (now t) n room × (nodes (now t) ≤ length (now outline)) ⌝ }
+    ensures { λ r. ⌜ r ≡ walk-root room (tree-at (now (t .entry)) n) ⌝ }
+    ensures known { λ r. ⌜ WhereCounted r (OperandsKnown (now (t .entry)) (now (outline .exit)) n) ⌝ }
 {
-    let room = room_of(work);
-    let n = (t.len() / 5 - 1) as u32;
     let v = tree::read(t, n);
-    if v.kind != 7 {
-        return walked(t, n, room, 1);
-    }
-    let one = walked(t, v.p, room, 1);
+    let one = walked(t, v.p, room, 1, outline);
     let meaning::Walked::Counted(x) = one else {
         return one;
     };
-    let two = walked(t, v.q, room, 1);
+    let two = walked(t, v.q, room, 1, outline);
     let meaning::Walked::Counted(y) = two else {
         return two;
     };
     paired(room, n, x, y)
+}
+
+// The walk from the root, which alone may be a within.
+pub fn walked_root(t: &[u32], work: usize, outline: &mut [u32]) -> meaning::Walked
+    requires { ⌜ FormedTable (now t) × (nodes (now t) ≤ length (now outline)) ⌝ }
+    ensures { λ r. ⌜ r ≡ walk-root (room-of work) (root (now (t .entry))) ⌝ }
+    ensures known { λ r. ⌜ WhereCounted r (KnownRoot (now (t .entry)) (now (outline .exit))) ⌝ }
+{
+    let room = room_of(work);
+    let n = (t.len() / 5 - 1) as u32;
+    let v = tree::read(t, n);
+    if v.kind == meaning::kind::WITHIN {
+        return walked_within(t, n, room, outline);
+    }
+    walked(t, n, room, 1, outline)
 }

@@ -71,7 +71,7 @@ module _ (tree work out : List ℕ) (registers words deepest : ℕ) (accepted : 
         };
       }
 
-      -- .. and from C, whatever is held where the match bit goes.
+      -- Every accepted listing runs from C too, whatever is held where the match bit goes.
       pub every-accepted-listing-runs-for-C : (held : ℕ → ℕ)
           → RunsForC ticks tree work (replicate (length work) 0) out out′ registers words deepest 0 cur atoms next next′ stack stack′
           held (λ n. ticked-number (answer n)) (λ n. match-after (answer n) (held n)) (λ n. ticked-place (answer n))

@@ -16,13 +16,10 @@ use Rattle.tick.specs.Stepped.{Stepped}
 use Rattle.stretch.specs.declared.Reader.{Reader}
 use Rattle.listing.proofs.row as row
 use Rattle.listing.proofs.is_store as is-store
-use Rattle.listing.proofs.stores_with as stores-with
 use Rattle.listing.proofs.moved as moved
-use Rattle.listing.proofs.height_with as height-with
-use Rattle.listing.proofs.registers as registers
-use Rattle.listing.proofs.word_fits as word-fits
+use Rattle.listing.proofs.note as note
+use Rattle.listing.proofs.ended as ended
 use Rattle.listing.proofs.checked as checked
-use Rattle.listing.proofs.larger as larger
 use Rattle.listing.proofs.deepest as deepest
 use Rattle.tick.proofs.tick as tick
 use Rattle.stretch.proofs.Reader.new as reader-new
@@ -52,33 +49,24 @@ same-reader : {r r′ : Reader} {listing : RefT (List ℕ)} {place : ℕ}
 same-reader p p′ i = record { listing = same (p .0) (p′ .0) i; at = same (p .1) (p′ .1) i }
 
 module _ {M : Type 1} (𝓤 : URA M) (H : Heap 𝓤) (A : Atoms 𝓤) (mem : Memory → SProp 𝓤) (run : Routine → Fun 𝓤) where
-  -- The table of fourteen rows, the check and the counts.
+  -- The table of fourteen rows, the check and its step, and the deepest stack.
   pub listing-row-has-one-outcome : OneOutcome 𝓤 row.ended (row.clauses 𝓤 H A mem run)
   listing-row-has-one-outcome κs a g o o′ = by-an-equation 𝓤
 
   pub listing-is-store-has-one-outcome : OneOutcome 𝓤 is-store.ended (is-store.clauses 𝓤 H A mem run)
   listing-is-store-has-one-outcome κs a g o o′ = by-an-equation 𝓤
 
-  pub listing-stores-with-has-one-outcome : OneOutcome 𝓤 stores-with.ended (stores-with.clauses 𝓤 H A mem run)
-  listing-stores-with-has-one-outcome κs a g o o′ = by-an-equation 𝓤
-
   pub listing-moved-has-one-outcome : OneOutcome 𝓤 moved.ended (moved.clauses 𝓤 H A mem run)
   listing-moved-has-one-outcome κs a g o o′ = by-an-equation 𝓤
 
-  pub listing-height-with-has-one-outcome : OneOutcome 𝓤 height-with.ended (height-with.clauses 𝓤 H A mem run)
-  listing-height-with-has-one-outcome κs a g o o′ = by-an-equation 𝓤
+  pub listing-note-has-one-outcome : OneOutcome 𝓤 note.ended (note.clauses 𝓤 H A mem run)
+  listing-note-has-one-outcome κs a g o o′ = by-an-equation 𝓤
 
-  pub listing-registers-has-one-outcome : OneOutcome 𝓤 registers.ended (registers.clauses 𝓤 H A mem run)
-  listing-registers-has-one-outcome κs a g o o′ = by-an-equation 𝓤
-
-  pub listing-word-fits-has-one-outcome : OneOutcome 𝓤 word-fits.ended (word-fits.clauses 𝓤 H A mem run)
-  listing-word-fits-has-one-outcome κs a g o o′ = by-an-equation 𝓤
+  pub listing-ended-has-one-outcome : OneOutcome 𝓤 ended.ended (ended.clauses 𝓤 H A mem run)
+  listing-ended-has-one-outcome κs a g o o′ = by-an-equation 𝓤
 
   pub listing-checked-has-one-outcome : OneOutcome 𝓤 checked.ended (checked.clauses 𝓤 H A mem run)
   listing-checked-has-one-outcome κs a g o o′ = by-an-equation 𝓤
-
-  pub listing-larger-has-one-outcome : OneOutcome 𝓤 larger.ended (larger.clauses 𝓤 H A mem run)
-  listing-larger-has-one-outcome κs a g o o′ = by-an-equation 𝓤
 
   pub listing-deepest-has-one-outcome : OneOutcome 𝓤 deepest.ended (deepest.clauses 𝓤 H A mem run)
   listing-deepest-has-one-outcome κs a g o o′ = by-an-equation 𝓤

@@ -41,7 +41,7 @@ module _ (σ τ : ℕ → ℕ → Bool) (end : ℕ) (agree : (k a : ℕ) → k <
   never : (a : ℕ) → IncludedUntil end (Never σ a) (Never τ a)
   never a i j b h k p q = subst (λ z. T (not z)) (agree k a (omega arith)) (h k p q)
 
-  -- Goto and nonconsecutive repetition ..
+  -- Goto and nonconsecutive repetition look no further.
   until-first : (a : ℕ) → IncludedUntil end (UntilFirst σ a) (UntilFirst τ a)
   until-first a i j b (k, p, e, no-a, h) = (k, p, e, never a i k (omega arith) no-a, holds k a (omega arith) h)
 
@@ -51,7 +51,7 @@ module _ (σ τ : ℕ → ℕ → Bool) (end : ℕ) (agree : (k a : ℕ) → k <
   nonconsec-runs : (a n : ℕ) → IncludedUntil end (NonconsecRuns σ a n) (NonconsecRuns τ a n)
   nonconsec-runs a n i j b (k, x, p, no-a) = (k, goto-runs a n i k (omega arith) x, p, never a k j b no-a)
 
-  -- .. and every tree.
+  -- Every tree matches the same up to that end.
   matches : (s : Seq) → IncludedUntil end (Match σ s) (Match τ s)
   matches (atom n a) i j b (e, h) = (e, holds i a (omega arith) h)
   matches (delay n l r m x) i j b (d, p, q, y) =

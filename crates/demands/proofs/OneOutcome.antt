@@ -17,11 +17,11 @@ outcome r l = record { result = r; left = l }
 pub same-result : {R L : Type 0} {r r′ : R} {l : L} → r ≡ r′ → outcome r l ≡ outcome r′ l
 same-result {l = l} p = ap (λ r. outcome r l) p
 
--- Where one slice is, `leaving` is what is left, from the list in it ..
+-- Where one slice is lent to be written, `leaving` is what is left, from the list in it.
 pub same-outcome : {R L : Type 0} (leaving : List ℕ → L) {r r′ : R} {x x′ : List ℕ} → r ≡ r′ → x ≡ x′ → outcome r (leaving x) ≡ outcome r′ (leaving x′)
 same-outcome leaving p q = ap₂ outcome p (ap leaving q)
 
--- .. and where two are, from the lists in them.
+-- Where two slices are lent to be written, `leaving` is what is left, from the lists in them.
 pub same-outcome-of-two : {R L : Type 0} (leaving : List ℕ → List ℕ → L) {r r′ : R} {x x′ y y′ : List ℕ}
     → r ≡ r′ → x ≡ x′ → y ≡ y′ → outcome r (leaving x y) ≡ outcome r′ (leaving x′ y′)
 same-outcome-of-two leaving p q s = ap₂ outcome p (ap₂ leaving q s)
@@ -54,7 +54,7 @@ module _ {M : Type 1} (𝓤 : URA M) where
   pub by-an-equation : {R L : Type 0} {r r′ v : R} {l : L} → ent 𝓤 (sep 𝓤 (fact 𝓤 (r ≡ v)) (fact 𝓤 (r′ ≡ v))) (fact 𝓤 (outcome r l ≡ outcome r′ l))
   by-an-equation = from-both (λ p p′. same-result (same p p′))
 
-  -- .. and a bound is promised too.
+  -- The result equals a value that the arguments name, and a bound is promised too.
   pub by-an-equation-and-a-bound : {R L : Type 0} {r r′ v : R} {l : L} {χ χ′ : Type 0}
       → ent 𝓤 (sep 𝓤 (sep 𝓤 (fact 𝓤 (r ≡ v)) (fact 𝓤 χ)) (sep 𝓤 (fact 𝓤 (r′ ≡ v)) (fact 𝓤 χ′))) (fact 𝓤 (outcome r l ≡ outcome r′ l))
   by-an-equation-and-a-bound = from-all (λ p b p′ b′. same-result (same p p′))
@@ -65,7 +65,7 @@ module _ {M : Type 1} (𝓤 : URA M) where
       (fact 𝓤 (outcome next (leaving after) ≡ outcome next′ (leaving after′)))
   by-writing leaving = from-both (wrote-the-same leaving)
 
-  -- .. and a bound is promised too.
+  -- Words are put into the one slice, the result is the next place, and a bound is promised too.
   pub by-writing-and-a-bound : {L : Type 0} (leaving : List ℕ → L) {before after after′ words : List ℕ} {place next next′ : ℕ} {χ χ′ : Type 0}
       → ent 𝓤 (sep 𝓤 (sep 𝓤 (fact 𝓤 (Wrote before after place next words)) (fact 𝓤 χ)) (sep 𝓤 (fact 𝓤 (Wrote before after′ place next′ words)) (fact 𝓤 χ′)))
       (fact 𝓤 (outcome next (leaving after) ≡ outcome next′ (leaving after′)))
@@ -76,12 +76,3 @@ module _ {M : Type 1} (𝓤 : URA M) where
       → ent 𝓤 (sep 𝓤 (sep 𝓤 (fact 𝓤 (r ≡ v)) (fact 𝓤 (after ≡ list))) (sep 𝓤 (fact 𝓤 (r′ ≡ v)) (fact 𝓤 (after′ ≡ list))))
       (fact 𝓤 (outcome r (leaving after) ≡ outcome r′ (leaving after′)))
   by-equations leaving = from-all (λ p q p′ q′. same-outcome leaving (same p p′) (same q q′))
-
-  -- The words are written into one slice, and what the other holds is an equation.
-  pub by-writing-and-an-equation : {L : Type 0} (leaving : List ℕ → List ℕ → L) {before after after′ words other other′ list : List ℕ} {place next next′ : ℕ}
-      → ent 𝓤
-      (sep 𝓤 (sep 𝓤 (fact 𝓤 (Wrote before after place next words)) (fact 𝓤 (other ≡ list)))
-      (sep 𝓤 (fact 𝓤 (Wrote before after′ place next′ words)) (fact 𝓤 (other′ ≡ list))))
-      (fact 𝓤 (outcome next (leaving other after) ≡ outcome next′ (leaving other′ after′)))
-  by-writing-and-an-equation leaving =
-      from-all (λ w q w′ q′. same-outcome-of-two leaving (same (w .ends) (w′ .ends)) (same q q′) (same (w .holds) (w′ .holds)))

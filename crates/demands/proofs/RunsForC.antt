@@ -40,7 +40,7 @@ pub a-tick-for-C-is-a-tick : {listing cur atoms next next′ stack stack′ : Li
 a-tick-for-C-is-a-tick c = record { answer = refl; next-holds = c .next-is; stack-holds = c .stack-is }
 
 module _ {ticks : ℕ} {tree work work′ out out′ : List ℕ} {registers words deepest : ℕ} {cur atoms next next′ stack stack′ : ℕ → List ℕ} where
-  -- The answers of `tick` behind the numbers ..
+  -- A run for C is a run, with the answers of `tick` behind the numbers.
   pub a-run-for-C-is-a-run : {fault : ℕ} {held number matched place : ℕ → ℕ}
       → RunsForC ticks tree work work′ out out′ registers words deepest fault cur atoms next next′ stack stack′ held number matched place
       → RunsAsShipped ticks tree work work′ out out′ registers words deepest cur atoms next next′ stack stack′
@@ -51,7 +51,7 @@ module _ {ticks : ℕ} {tree work work′ out out′ : List ℕ} {registers word
     lent = run .lent;
   }
 
-  -- .. and the numbers that it would have had in C.
+  -- A run is one for C, with the numbers that it would have had there.
   pub a-run-is-one-for-C : {answer : ℕ → Ticked}
       → RunsAsShipped ticks tree work work′ out out′ registers words deepest cur atoms next next′ stack stack′ answer → (held : ℕ → ℕ)
       → RunsForC ticks tree work work′ out out′ registers words deepest 0 cur atoms next next′ stack stack′

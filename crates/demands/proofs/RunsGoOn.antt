@@ -26,12 +26,12 @@ module _ (listing : List ℕ) (atoms next stack : ℕ → List ℕ) where
     gone-on zero = cur zero
     gone-on (suc n) = pick (ltb n last) (cur (suc n)) (stored-from (gone-on n) n)
 
-    -- It is the same run until then ..
+    -- The run that goes on is the same run until the last tick.
     pub the-same-until-last : (n : ℕ) → n ≤ last → gone-on n ≡ cur n
     the-same-until-last zero l = refl
     the-same-until-last (suc n) l = pick-true _ _ (lt-ltb n last l)
 
-    -- .. and where the registers were what each tick had left, they are for good.
+    -- Where the registers were what each tick had left, they are so for good.
     pub goes-on-for-good : (registers : ℕ) → ((n : ℕ) → n < last → take registers (cur (suc n)) ≡ take registers (stored-from (cur n) n))
         → (n : ℕ) → take registers (gone-on (suc n)) ≡ take registers (stored-from (gone-on n) n)
     goes-on-for-good registers went-on n =

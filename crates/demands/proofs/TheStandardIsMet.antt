@@ -1,4 +1,4 @@
--- DEMAND 3, of the shipped functions: from the contracts of `lower` and `tick` alone, whoever runs them as 01 says, for however many
+-- DEMAND 3, of the shipped functions: from the contracts of `lower` and `tick` alone, whoever runs them as the specification says, for however many
 -- ticks, is answered 1 exactly where a match of the tree ends, and 0 at every other tick. What is beside it here is read off the same
 -- contracts: the words handed out are as described, the answer's numbers are counted in them, and no tick is refused.
 --
@@ -107,15 +107,15 @@ module _ {ticks : ℕ} {tree work work′ out out′ : List ℕ} {registers word
     abbrev cur-on : ℕ → List ℕ
     cur-on = gone-on listing atoms-on next-on stack-on cur last
 
-    -- Up to that tick it is lent the same ..
+    -- Up to that tick the run that goes on is lent the same.
     lent-alike : (n : ℕ) → n ≤ last → min n last ≡ n
     lent-alike n l = omega arith
 
-    -- .. so from the same registers it answers the same, ..
+    -- Up to that tick it answers the same from the same registers.
     answers-alike : (n : ℕ) → n ≤ last → answer n ≡ answer-from listing atoms-on next-on stack-on (cur n) n
     answers-alike n l = run .ticked n (omega arith) .answer ∙ rw (words-are, lent-alike n l) refl
 
-    -- .. and stores the same, from which the next tick goes on.
+    -- Up to that tick it stores the same, from which the next one goes on.
     registers-alike : (n : ℕ) → n < last → take registers (cur (suc n)) ≡ take registers (stored-from listing atoms-on next-on stack-on (cur n) n)
     registers-alike n l =
         rw (run .lent .goes-on n (omega arith))
@@ -133,11 +133,11 @@ module _ {ticks : ℕ} {tree work work′ out out′ : List ℕ} {registers word
       atoms-bits = λ n. rw (← words-are) (run .lent .atoms-bits (min n last) (omega arith));
     }
 
-    -- At that tick it gives the run's answer, ..
+    -- At that tick the run that goes on gives the run's answer.
     answered : answer last ≡ answer-from listing atoms-on next-on stack-on (cur-on last) last
     answered = answers-alike last (omega arith) ∙ rw (the-same-until-last listing atoms-on next-on stack-on cur last last (omega arith)) refl
 
-    -- .. and up to it the same atoms hold.
+    -- Up to that tick the same atoms hold.
     traces-alike : (n a : ℕ) → n ≤ last → trace atoms-on n a ≡ trace atoms n a
     traces-alike n a l = rw (lent-alike n l) refl
 

@@ -1,4 +1,4 @@
--- DEMAND 3, of what C calls: from the contracts of `sva_lower` and `sva_tick` alone, whoever runs them as 01 says, for however many
+-- DEMAND 3, of what C calls: from the contracts of `sva_lower` and `sva_tick` alone, whoever runs them as the specification says, for however many
 -- ticks, is returned 0 at each, with a match bit of 1 exactly where a match of the tree ends, and 0 at every other tick. It is read off
 -- the theorem of `lower` and `tick`.
 use mathlib.Core.Path.{_≡_, ap, _∙_}
@@ -18,13 +18,13 @@ use Rattle.demands.specs.ShippedForC.{RunsForC, MeetsTheStandardForC}
 use Rattle.demands.proofs.TheStandardIsMet.{no-tick-is-refused, lower-and-tick-meet-the-standard}
 use Rattle.demands.proofs.RunsForC.{a-run-for-C-is-a-run}
 
--- An answer that is no refusal is returned as 0, ..
+-- An answer that is no refusal is returned as 0.
 returned-as-0 : (answer : Ticked) → IsABit answer → ticked-number answer ≡ 0
 unfolding ticked-number
 returned-as-0 answer (inl e) = rw e
 returned-as-0 answer (inr e) = rw e
 
--- .. and its bit is stored.
+-- The bit of an answer that is no refusal is stored.
 stored-as-it-is : (answer : Ticked) (held bit : ℕ) → IsABit answer → (match-after answer held ≡ bit) ↔ (answer ≡ MatchBit bit)
 unfolding match-after
 stored-as-it-is (MatchBit b) held bit is = (λ e. ap MatchBit e, λ e. cc)

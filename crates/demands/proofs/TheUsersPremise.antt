@@ -30,7 +30,7 @@ pub lower-and-tick-meet-the-standard-of-the-table :
     → OnTopInTheTable tree → (n : ℕ) → n < ticks → MeetsTheStandard tree atoms n (answer n)
 lower-and-tick-meet-the-standard-of-the-table run said = lower-and-tick-meet-the-standard run (on-top-in-the-tree (run .lowered) said)
 
--- .. and of what C calls.
+-- DEMAND 3, of the table's words, of what C calls.
 pub sva-lower-and-sva-tick-meet-the-standard-of-the-table :
     {ticks : ℕ} {tree work work′ out out′ : List ℕ} {registers words deepest fault : ℕ} {cur atoms next next′ stack stack′ : ℕ → List ℕ}
     {held number matched place : ℕ → ℕ}

@@ -1,4 +1,4 @@
--- 01, Tick: "An atom that the listing never names changes nothing." Of the contracts: two ticks whose atoms are alike in all that the
+-- SPECIFICATION, "Tick": "An atom that the listing never names has no influence." Of the contracts: two ticks whose atoms are alike in all that the
 -- listing names have one outcome, whatever their other atoms are and however many.
 use mathlib.Core.Path.{_≡_, sym, _∙_}
 use mathlib.Core.List.{List}
@@ -23,7 +23,7 @@ module _ {ws cur atoms atoms′ next next₁ next₂ stack stack₁ stack₂ : L
         one .stack-holds ∙ rw same (sym (two .stack-holds)),
       )
 
-  -- .. nor anything that `sva_tick` returns or stores, with the same byte held where the match bit goes.
+  -- Nor does it change anything that `sva_tick` returns or stores, with the same byte held where the match bit goes.
   pub an-atom-that-the-listing-never-names-changes-nothing-for-C : {held number₁ number₂ matched₁ matched₂ place₁ place₂ : ℕ} → AlikeWhereNamed ws atoms atoms′
       → TicksForC ws cur atoms next stack held number₁ next₁ stack₁ matched₁ place₁ → TicksForC ws cur atoms′ next stack held number₂ next₂ stack₂ matched₂ place₂
       → (number₁ ≡ number₂) × (next₁ ≡ next₂) × (stack₁ ≡ stack₂) × (matched₁ ≡ matched₂) × (place₁ ≡ place₂)

@@ -24,18 +24,22 @@ module _ (T : Ended) where
   abbrev pub Outcomes : (κs : Lifetimes) → Args (T .signature) κs → Type 0
   Outcomes κs a = Outcome (Res (T .signature) κs) (Lasts T κs a)
 
--- The contract `promised` of such a function, over a model of the program logic.
+-- The contract `promised` of a function whose parameters and result are T's, over a model of the program logic.
 module _ {M : Type 1} (𝓤 : URA M) (T : Ended) (promised : Clauses 𝓤 T) where
-  -- What it says of an outcome.
+  -- What the contract says of an outcome.
   abbrev pub Said : (κs : Lifetimes T) (a : Args (T .signature) κs) → promised κs a .ghost → Outcomes T κs a → SProp 𝓤
   Said κs a g o = promised κs a .ensures g (o .result) (atExit T κs a (o .left))
 
-  -- Two outcomes of which it says so are as alike as Alike demands.
+  -- Two outcomes of which the contract holds are as alike as Alike demands.
   abbrev pub OneOutcomeUpTo : ((κs : Lifetimes T) (a : Args (T .signature) κs) → Outcomes T κs a → Outcomes T κs a → Type 0) → Type 1
   OneOutcomeUpTo Alike =
       (κs : Lifetimes T) (a : Args (T .signature) κs) (g : promised κs a .ghost) (o o′ : Outcomes T κs a)
       → ent 𝓤 (sep 𝓤 (Said κs a g o) (Said κs a g o′)) (fact 𝓤 (Alike κs a o o′))
 
-  -- .. are the same.
+  -- Two outcomes of which the contract holds are the same.
   abbrev pub OneOutcome : Type 1
   OneOutcome = OneOutcomeUpTo (λ κs a o o′. o ≡ o′)
+
+  -- Two outcomes of which the contract holds have the same result, whatever is left in the slices.
+  abbrev pub OneResult : Type 1
+  OneResult = OneOutcomeUpTo (λ κs a o o′. o .result ≡ o′ .result)

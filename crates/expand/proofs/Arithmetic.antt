@@ -1,4 +1,4 @@
--- The arithmetic of numbered alternatives as the code meets it: the three loops over copies, and what a repetition adds.
+-- The arithmetic of numbered alternatives as the code meets it: the two loops over copies, and what a repetition adds.
 -- Assumes nothing.
 use mathlib.Core.Path.{_≡_, refl, sym, _∙_}
 use mathlib.Core.Bool.{Bool, true, false}
@@ -8,12 +8,12 @@ use native.Mathlib.Nat.{mul-le-mul, le-refl, sub-zero, add-zero}
 use native.Mathlib.Numerals.{add-one}
 use mir.Val.{Fits}
 use mir.Syntax.{w32}
-use borrow.Author.Tests.{lt-ltb, le-ltb, eq-eqb, ne-eqb}
+use borrow.Author.Tests.{lt-ltb, le-ltb}
 use lib.Dec.{eqb, leb}
 use Rattle.words.specs.Choice.{pick-true, pick-false, pick-case}
 use Rattle.meaning.specs.declared.Node.{Node}
-use Rattle.meaning.specs.Tree.{unlimited}
-use Rattle.expand.specs.ByNumber.{hops-between, copies-count, copies-from-count, block-of, empties, repeats, is-copies, single-count}
+use Rattle.outline.specs.Outline.{is-repeated}
+use Rattle.expand.specs.ByNumber.{copies-count, block-of, empties, is-copies}
 use Rattle.expand.specs.declared.Block.{Block}
 
 -- One copy more multiplies by a, so that the counts do not fall.
@@ -34,12 +34,6 @@ copies-grow-by a j (suc d) h =
 -- More copies have no fewer alternatives.
 pub copies-monotone : (a j k : ℕ) → 0 < a → j ≤ k → copies-count a j ≤ copies-count a k
 copies-monotone a j k h p = let e : k ≡ j + (k - j) = omega arith in rw e (copies-grow-by a j (k - j) h)
-
--- The first block is one of the blocks.
-pub first-block : (a k count : ℕ) → 0 < count → copies-count a k ≤ copies-from-count a k count
-unfolding copies-from-count
-first-block a k zero h = absurd (omega arith)
-first-block a k (suc count) h = omega arith
 
 -- What the loops multiply fits into 32 bits.
 small-product : {a b : ℕ} → a ≤ 256 → b ≤ 256 → a * b ≤ 65536
@@ -63,44 +57,6 @@ multiplying-fits {a} {k} {p} {j} pre g h =
 
 pub multiplying-ends : {a k p j : ℕ} → Multiplying a k p j → k ≤ j → p ≡ copies-count a k
 multiplying-ends {a} {k} {p} {j} g h = let e : k ≡ j = omega (arith, g .turn) in rw e (g .value)
-
--- The loop of `count_copies_from`: p is the count of the next block, total that of the blocks before.
-pub record Summing (a k count p total j : ℕ) : Type 0 where
-  pub turn : j ≤ count
-  pub power : p ≡ copies-count a (k + j)
-  pub rest : copies-from-count a k count ≡ total + copies-from-count a (k + j) (count - j)
-
--- The blocks from the j-th on: that one, then the rest.
-blocks-here : (a k count j : ℕ) → j < count
-    → copies-from-count a (k + j) (count - j) ≡ copies-count a (k + j) + copies-from-count a (k + (j + 1)) (count - (j + 1))
-unfolding copies-from-count
-blocks-here a k count j h =
-    let e : count - j ≡ suc (count - (j + 1)) = omega arith in
-    let f : k + (j + 1) ≡ suc (k + j) = omega arith in
-    rw (e, f) refl
-
-pub summing-begins : {a k count p : ℕ} → p ≡ copies-count a k → Summing a k count p 0 0
-summing-begins {a} {k} {count} e = record { turn = omega arith; power = rw add-zero e; rest = rw (add-zero, sub-zero) (omega arith) }
-
-pub summing-on : {a k count p total j : ℕ} → Summing a k count p total j → j < count → Summing a k count (p * a) (total + p) (j + 1)
-summing-on {a} {k} {count} {p} {total} {j} g h = record {
-  turn = omega arith;
-  power = let e : k + (j + 1) ≡ k + j + 1 = omega arith in rw (e, g .power) (sym (copies-more a (k + j)));
-  rest = omega (arith, g .rest, g .power, blocks-here a k count j h);
-}
-
-module _ {a k count p total j : ℕ}
-    (pre : (0 < a) × (a ≤ 256) × (copies-count a k ≤ 256) × (copies-from-count a k count ≤ 256)) (g : Summing a k count p total j) (h : j < count) where
-  pub summing-fits : Fits w32 (total + p)
-  summing-fits = omega (arith, g .rest, g .power, blocks-here a k count j h, pre)
-
-  pub summing-product-fits : Fits w32 (p * a)
-  summing-product-fits =
-      omega (arith, small-product {a = p} {b = a} (omega (arith, g .rest, g .power, blocks-here a k count j h, pre)) (pre .1))
-
-pub summing-ends : {a k count p total j : ℕ} → Summing a k count p total j → count ≤ j → total ≡ copies-from-count a k count
-unfolding copies-from-count
-summing-ends {a} {k} {count} {p} {total} {j} g h = let e : count - j ≡ 0 = omega arith in omega (arith, rw e at (g .rest))
 
 -- The loop of `find_block`: number i of all blocks is number j of those from the block `at` on, whose count is p.
 pub record Finding (a k more i p j at : ℕ) : Type 0 where
@@ -148,49 +104,22 @@ pub finding-last : {a k more i p j at : ℕ} → Finding a k more i p j at → m
 unfolding block-of
 finding-last {a} {k} {more} {i} {p} {j} {at} g h = let e : more - at ≡ 0 = omega arith in sym (g .rest ∙ rw e refl)
 
--- `hop_count` past its first test.
-pub hops-none : {min max : ℕ} → (max ≡ unlimited → ⊥) → max < min → 0 ≡ hops-between min max
-unfolding hops-between
-hops-none e h = sym (pick-false _ _ (ne-eqb _ _ e) ∙ omega arith)
-
-pub hops-some : {min max : ℕ} → (max ≡ unlimited → ⊥) → min ≤ max → max - min + 1 ≡ hops-between min max
-unfolding hops-between
-hops-some e h = sym (pick-false _ _ (ne-eqb _ _ e) ∙ omega arith)
-
 -- A number of Empties is 0 or 1.
 pub empties-few : (min : ℕ) → empties min ≤ 1
 unfolding empties
 empties-few min = pick-case (λ (k : ℕ). k ≤ 1) (eqb min 0) (λ e. omega arith) (λ e. omega arith)
 
--- `count_repeated` and `place`, which have one less than the minimum under the name k.
+-- `place` has one less than the minimum under the name k.
 pub first-copies-few : (a min : ℕ) {k : ℕ} → k ≡ min - 1 → copies-count a (min - 1) ≤ 256 → copies-count a k ≤ 256
 first-copies-few a min e h = rw e h
 
-module _ (a min max : ℕ) {k : ℕ} (p : k ≡ min - 1) where
-  pub blocks-few : empties min + copies-from-count a (min - 1) (max - (min - 1)) ≤ 256 → copies-from-count a k (max - k) ≤ 256
-  blocks-few h = rw p (omega arith)
-
-  module _ {b e : ℕ} (q : e ≡ empties min) (r : b ≡ copies-from-count a k (max - k)) where
-    pub repeated-sum : e + b ≡ empties min + copies-from-count a (min - 1) (max - (min - 1))
-    repeated-sum = rw (q, r, p) refl
-
-    pub repeated-fits : empties min + copies-from-count a (min - 1) (max - (min - 1)) ≤ 256 → Fits w32 (e + b)
-    repeated-fits h = omega (arith, repeated-sum)
-
--- .. and the Empties under the name e.
+-- `place` has the Empties under the name e.
 pub placed : (a min max i : ℕ) {k e : ℕ} {r : Block} → k ≡ min - 1 → e ≡ empties min → r ≡ block-of a k (max - k - 1) (i - e)
     → r ≡ block-of a (min - 1) (max - (min - 1) - 1) (i - empties min)
 placed a min max i p q r = rw (← p, ← q) r
 
--- `count_singles` and `made_of_copies`, which have the Empties under the name e.
-pub unlimited-fits : (min : ℕ) {e : ℕ} → e ≡ empties min → Fits w32 (e + 1)
-unlimited-fits min q = omega (arith, empties-few min)
-
-pub unlimited-counted : (v : Node) {e : ℕ} → v .kind ≡ 3 → v .max ≡ unlimited → e ≡ empties (v .min) → e + 1 ≡ single-count v
-unfolding single-count
-unlimited-counted v k u q = sym (pick-true _ _ (eq-eqb _ _ k) ∙ pick-true _ _ (eq-eqb _ _ u) ∙ rw q refl)
-
-module _ (v : Node) (i : ℕ) {b : Bool} (r : b ≡ repeats v) where
+-- `made_of_copies`, which has the Empties under the name e.
+module _ (v : Node) (i : ℕ) {b : Bool} (r : b ≡ is-repeated v) where
   pub copies-past-empty : {e : ℕ} → b ≡ true → e ≡ empties (v .min) → leb e i ≡ is-copies v i
   unfolding is-copies
   copies-past-empty y q = sym (pick-true _ _ (sym r ∙ y) ∙ rw q refl)

@@ -5,59 +5,36 @@ use mathlib.Core.List.{List, [], _∷_}
 use Prim.Native.Nat.{ℕ, zero, suc, _+_, _*_, _-_, _<_, _≤_}
 use native.Mathlib.Omega.{arith}
 use native.Mathlib.Decide.{ℕ-discrete}
-use lib.Dec.{eqb, leb, ltb}
+use lib.Dec.{leb}
 use lib.ListN.{length}
-use borrow.Author.Tests.{lt-ltb, le-ltb, eq-eqb, ne-eqb, eqb-true, eqb-false, ltb-true, ltb-false, leb-false}
-use Rattle.words.specs.Choice.{pick, pick-true, pick-false}
+use borrow.Author.Tests.{lt-ltb, le-ltb, ne-eqb, leb-false}
+use Rattle.words.specs.Choice.{pick}
 use Rattle.meaning.specs.declared.Node.{Node}
 use Rattle.meaning.specs.declared.SeqTerm.the-variants.{Bool as BoolTerm, Goto, Nonconsec, ConsecAtLeast, Empty}
-use Rattle.meaning.specs.Tree.{finite, unbounded, Seq, delay, consec, goto, nonconsec, throughout, Operand, boolean, operand, node-at, unlimited, max-of, tree-at, nodes}
+use Rattle.meaning.specs.Tree.{finite, Seq, consec, Operand, boolean, operand, node-at, unlimited, max-of, tree-at, nodes}
 use Rattle.meaning.specs.Alternative.{SeqAlt, single, join-hops, hops, consec-finite, over, consec-unbounded, guard-each, expand}
 use Rattle.meaning.specs.Lowerable.{WellFormed, FormedTable, IsBoolean, Walkable}
-use Rattle.words.proofs.Taken.{both-hold, second-taken, false-is-not-true}
-use Rattle.meaning.proofs.Ranges.{by-kind, finite-max, unbounded-max, a-formed-tree-is-ranged}
-use Rattle.meaning.proofs.Nodes.{at-atom, at-delay, at-consec, at-goto, at-nonconsec, at-throughout, at-within}
-use Rattle.meaning.proofs.Walks.{a-walkable-tree-is-bounded}
+use Rattle.meaning.proofs.Ranges.{by-kind, a-formed-tree-is-ranged}
 use Rattle.meaning.proofs.Flags.{a-walkable-tree-has-alternatives}
-use Rattle.expand.proofs.Index.{length-with-empty, nth-unbounded, nth-finite-empty}
-use Rattle.expand.specs.ByNumber.{alternatives-of, nth, empties, repeats, is-copies, single-count, single-term, OperandInside, Expandable}
+use Rattle.outline.specs.Outline.{is-repeated, Expandable}
+use Rattle.outline.proofs.Laws.{Repetition, no-repetition}
+use Rattle.outline.proofs.ByWords.{well-formed, is-atom, is-delay, is-consec, is-finite, is-unbounded, is-goto, is-nonconsec, is-throughout, is-within}
+use Rattle.outline.proofs.Readers.{few-alternatives as few-expanded}
+use Rattle.expand.proofs.Index.{nth-unbounded, nth-finite-empty}
+use Rattle.expand.specs.ByNumber.{alternatives-of, nth, empties, is-copies, single-term, OperandInside}
 
 -- The operand of a goto, a nonconsecutive or a [*m:$] is an atom, and its first word is which.
 boolean-operand : (t : List ℕ) (m : ℕ) → FormedTable t → m < nodes t → IsBoolean (operand (tree-at t m))
     → operand (tree-at t m) ≡ boolean (node-at t m .p)
 boolean-operand t m T i B =
-    by-kind (node-at t m .kind) (f .known)
-    (λ e. ap operand (at-atom t m e))
-    (λ e. absurd (rw (at-delay t m e (f .delay-left e) (f .delay-right e)) at B))
-    (λ e. absurd (rw (at-consec t m e (f .consec-under e)) at B))
-    (λ e. absurd (rw (at-goto t m e (f .goto-under e)) at B))
-    (λ e. absurd (rw (at-nonconsec t m e (f .nonconsec-under e)) at B))
-    (λ e. absurd (rw (at-throughout t m e (f .throughout-under e)) at B))
-    (λ e. absurd (rw (at-within t m e (f .within-one e) (f .within-two e)) at B))
-  where
-    f : WellFormed m (node-at t m)
-    f = T .each m i
-
--- What the tests of `has_copies` say: a finite [*] that has copies.
-pub record Repetition (v : Node) : Type 0 where
-  pub kind : v .kind ≡ 3
-  pub limited : v .max ≡ unlimited → ⊥
-  pub live : 0 < v .max
-
-pub repetition : (v : Node) {b : Bool} → b ≡ repeats v → b ≡ true → Repetition v
-unfolding repeats
-repetition v p q =
-    let (three, more) = both-hold (eqb (v .kind) 3) (sym p ∙ q) in
-    let (limit, some) = second-taken (eqb (v .max) unlimited) false-is-not-true more in
-    record { kind = eqb-true _ _ three; limited = eqb-false _ _ limit; live = ltb-true _ _ some }
-
--- .. and where they fail for a finite [*], it is [*0].
-pub no-repetition : (v : Node) {b : Bool} → b ≡ repeats v → b ≡ false → v .kind ≡ 3 → (v .max ≡ unlimited → ⊥) → v .max ≡ 0
-unfolding repeats
-no-repetition v p q k l =
-    let limit : pick (eqb (v .max) unlimited) false (ltb 0 (v .max)) ≡ ltb 0 (v .max) = pick-false _ _ (ne-eqb _ _ l) in
-    let whole : repeats v ≡ ltb 0 (v .max) = pick-true _ _ (eq-eqb _ _ k) ∙ limit in
-    omega (arith, ltb-false 0 (v .max) (sym whole ∙ sym p ∙ q))
+    by-kind (node-at t m .kind) (T .each m i .known)
+    (λ e. ap operand (is-atom T i refl e))
+    (λ e. absurd (rw (is-delay T i refl e) at B))
+    (λ e. absurd (rw (is-consec T i refl e refl) at B))
+    (λ e. absurd (rw (is-goto T i refl e) at B))
+    (λ e. absurd (rw (is-nonconsec T i refl e) at B))
+    (λ e. absurd (rw (is-throughout T i refl e) at B))
+    (λ e. absurd (rw (is-within T i refl e) at B))
 
 -- 5 of a finite [*] that has copies, and what is known of its operand.
 walkable-copies : (room n : ℕ) (s : Seq) (m x : ℕ) → 0 < x → Walkable room (consec n s m (finite x)) → Walkable room s × (x ≤ 256)
@@ -66,22 +43,18 @@ walkable-copies room n s m zero h W = absurd (omega arith)
 walkable-copies room n s m (suc x) h W = (W .0, W .1)
 
 module _ {t : List ℕ} {n : ℕ} (E : Expandable t n) where
-  -- From 1 to 256 alternatives.
+  -- A node has from 1 to 256 alternatives.
   pub some-alternatives : 0 < length (alternatives-of t n)
   unfolding alternatives-of
   some-alternatives = a-walkable-tree-has-alternatives (E .room) (tree-at t n) (a-formed-tree-is-ranged t (E .formed) n (E .inside)) (E .walkable)
 
   pub few-alternatives : length (alternatives-of t n) ≤ 256
   unfolding alternatives-of
-  few-alternatives = a-walkable-tree-is-bounded (E .room) (tree-at t n) (E .walkable) .few
+  few-alternatives = few-expanded E
 
   module _ {v : Node} (w : v ≡ node-at t n) where
-    -- 1 and 3, of the words as they were read and as they stand in the table.
-    pub well-formed : WellFormed n v
-    well-formed = rw w (E .formed .each n (E .inside))
-
-    abbrev f : WellFormed n (node-at t n)
-    f = E .formed .each n (E .inside)
+    words : WellFormed n v
+    words = well-formed (E .formed) (E .inside) w
 
     -- A lower node that the walk let pass too.
     lower : (m : ℕ) → m < n → Walkable (E .room) (tree-at t m) → Expandable t m
@@ -89,67 +62,52 @@ module _ {t : List ℕ} {n : ℕ} (E : Expandable t n) where
 
     -- ---- delay
 
-    pub is-delay : v .kind ≡ 2 → tree-at t n ≡ delay n (tree-at t (v .p)) (tree-at t (v .q)) (v .min) (max-of (v .max))
-    is-delay k = let e = rw w at k in at-delay t n e (f .delay-left e) (f .delay-right e) ∙ rw w refl
-
     delay-walkable : v .kind ≡ 2 → Walkable (E .room) (tree-at t (v .p)) × Walkable (E .room) (tree-at t (v .q))
     unfolding Walkable
-    delay-walkable k = let W = rw (is-delay k) at (E .walkable) in (W .0, W .1)
+    delay-walkable k = let W = rw (is-delay (E .formed) (E .inside) w k) at (E .walkable) in (W .0, W .1)
 
     pub left-expandable : v .kind ≡ 2 → Expandable t (v .p)
-    left-expandable k = lower (v .p) (well-formed .delay-left k) (delay-walkable k .0)
+    left-expandable k = lower (v .p) (words .delay-left k) (delay-walkable k .0)
 
     pub right-expandable : v .kind ≡ 2 → Expandable t (v .q)
-    right-expandable k = lower (v .q) (well-formed .delay-right k) (delay-walkable k .1)
+    right-expandable k = lower (v .q) (words .delay-right k) (delay-walkable k .1)
 
     pub delay-alternatives : v .kind ≡ 2
         → alternatives-of t n ≡ join-hops (hops (v .min) (max-of (v .max))) (alternatives-of t (v .p)) (alternatives-of t (v .q))
     unfolding alternatives-of
-    delay-alternatives k = rw (is-delay k) refl
+    delay-alternatives k = rw (is-delay (E .formed) (E .inside) w k) refl
 
     -- ---- throughout
 
-    pub is-throughout : v .kind ≡ 6 → tree-at t n ≡ throughout n (v .p) (tree-at t (v .q))
-    is-throughout k = let e = rw w at k in at-throughout t n e (f .throughout-under e) ∙ rw w refl
-
     pub guarded-expandable : v .kind ≡ 6 → Expandable t (v .q)
     unfolding Walkable
-    guarded-expandable k = lower (v .q) (well-formed .throughout-under k) (let W = rw (is-throughout k) at (E .walkable) in W .0)
+    guarded-expandable k = lower (v .q) (words .throughout-under k) (let W = rw (is-throughout (E .formed) (E .inside) w k) at (E .walkable) in W .0)
 
     pub throughout-alternatives : v .kind ≡ 6 → alternatives-of t n ≡ guard-each (v .p) (alternatives-of t (v .q))
     unfolding alternatives-of
-    throughout-alternatives k = rw (is-throughout k) refl
+    throughout-alternatives k = rw (is-throughout (E .formed) (E .inside) w k) refl
 
     -- ---- consecutive
-
-    is-consec : v .kind ≡ 3 → tree-at t n ≡ consec n (tree-at t (v .p)) (v .min) (max-of (v .max))
-    is-consec k = let e = rw w at k in at-consec t n e (f .consec-under e) ∙ rw w refl
-
-    pub is-finite : v .kind ≡ 3 → (v .max ≡ unlimited → ⊥) → tree-at t n ≡ consec n (tree-at t (v .p)) (v .min) (finite (v .max))
-    is-finite k l = is-consec k ∙ ap (consec n (tree-at t (v .p)) (v .min)) (finite-max _ l)
-
-    pub is-unbounded : v .kind ≡ 3 → v .max ≡ unlimited → tree-at t n ≡ consec n (tree-at t (v .p)) (v .min) unbounded
-    is-unbounded k u = is-consec k ∙ ap (consec n (tree-at t (v .p)) (v .min)) (unbounded-max _ u)
 
     pub finite-alternatives : v .kind ≡ 3 → (v .max ≡ unlimited → ⊥)
         → alternatives-of t n ≡ consec-finite (alternatives-of t (v .p)) (v .min) (v .max)
     unfolding alternatives-of
-    finite-alternatives k l = rw (is-finite k l) refl
+    finite-alternatives k l = rw (is-finite (E .formed) (E .inside) w k l) refl
 
     module _ (R : Repetition v) where
       -- What 5 and the walk say of a [*] that has copies, and its alternatives.
       copies-walkable : Walkable (E .room) (tree-at t (v .p)) × (v .max ≤ 256)
       copies-walkable =
-          walkable-copies (E .room) n (tree-at t (v .p)) (v .min) (v .max) (R .live) (rw (is-finite (R .kind) (R .limited)) at (E .walkable))
+          walkable-copies (E .room) n (tree-at t (v .p)) (v .min) (v .max) (R .live) (rw (is-finite (E .formed) (E .inside) w (R .kind) (R .limited)) at (E .walkable))
 
       pub copied-expandable : Expandable t (v .p)
-      copied-expandable = lower (v .p) (well-formed .consec-under (R .kind)) (copies-walkable .0)
+      copied-expandable = lower (v .p) (words .consec-under (R .kind)) (copies-walkable .0)
 
       pub few-copies : v .max ≤ 256
       few-copies = copies-walkable .1
 
       pub copies-in-order : v .min ≤ v .max
-      copies-in-order = well-formed .consec-range (R .kind)
+      copies-in-order = words .consec-range (R .kind)
 
       pub repeated-alternatives : alternatives-of t n ≡ consec-finite (alternatives-of t (v .p)) (v .min) (v .max)
       repeated-alternatives = finite-alternatives (R .kind) (R .limited)
@@ -164,30 +122,24 @@ module _ {t : List ℕ} {n : ℕ} (E : Expandable t n) where
     pub unbounded-alternatives : v .kind ≡ 3 → v .max ≡ unlimited → alternatives-of t n ≡ consec-unbounded (v .min) (node-at t (v .p) .p)
     unfolding alternatives-of Walkable
     unbounded-alternatives k u =
-        ap expand (is-unbounded k u)
-        ∙ over-operand (consec-unbounded (v .min)) (well-formed .consec-under k) (let W = rw (is-unbounded k u) at (E .walkable) in W .1)
-
-    pub is-goto : v .kind ≡ 4 → tree-at t n ≡ goto n (tree-at t (v .p)) (v .min)
-    is-goto k = let e = rw w at k in at-goto t n e (f .goto-under e) ∙ rw w refl
+        ap expand (is-unbounded (E .formed) (E .inside) w k u)
+        ∙ over-operand (consec-unbounded (v .min)) (words .consec-under k) (let W = rw (is-unbounded (E .formed) (E .inside) w k u) at (E .walkable) in W .1)
 
     pub goto-alternatives : v .kind ≡ 4 → alternatives-of t n ≡ single (Goto (node-at t (v .p) .p) (v .min)) ∷ []
     unfolding alternatives-of Walkable
     goto-alternatives k =
-        ap expand (is-goto k)
-        ∙ over-operand (λ b. single (Goto b (v .min)) ∷ []) (well-formed .goto-under k) (let W = rw (is-goto k) at (E .walkable) in W .1)
-
-    pub is-nonconsec : v .kind ≡ 5 → tree-at t n ≡ nonconsec n (tree-at t (v .p)) (v .min)
-    is-nonconsec k = let e = rw w at k in at-nonconsec t n e (f .nonconsec-under e) ∙ rw w refl
+        ap expand (is-goto (E .formed) (E .inside) w k)
+        ∙ over-operand (λ b. single (Goto b (v .min)) ∷ []) (words .goto-under k) (let W = rw (is-goto (E .formed) (E .inside) w k) at (E .walkable) in W .1)
 
     pub nonconsec-alternatives : v .kind ≡ 5 → alternatives-of t n ≡ single (Nonconsec (node-at t (v .p) .p) (v .min)) ∷ []
     unfolding alternatives-of Walkable
     nonconsec-alternatives k =
-        ap expand (is-nonconsec k)
-        ∙ over-operand (λ b. single (Nonconsec b (v .min)) ∷ []) (well-formed .nonconsec-under k) (let W = rw (is-nonconsec k) at (E .walkable) in W .1)
+        ap expand (is-nonconsec (E .formed) (E .inside) w k)
+        ∙ over-operand (λ b. single (Nonconsec b (v .min)) ∷ []) (words .nonconsec-under k) (let W = rw (is-nonconsec (E .formed) (E .inside) w k) at (E .walkable) in W .1)
 
     pub atom-alternatives : v .kind ≡ 1 → alternatives-of t n ≡ single (BoolTerm (v .p)) ∷ []
     unfolding alternatives-of
-    atom-alternatives k = ap expand (at-atom t n (rw w at k)) ∙ rw w refl
+    atom-alternatives k = ap expand (is-atom (E .formed) (E .inside) w k)
 
     pub atom-alternative : v .kind ≡ 1 → (i : ℕ) → i < length (alternatives-of t n) → nth (alternatives-of t n) i ≡ single (BoolTerm (v .p))
     unfolding nth
@@ -199,9 +151,7 @@ module _ {t : List ℕ} {n : ℕ} (E : Expandable t n) where
     -- 8: a within is the root's alone.
     pub no-within : v .kind ≡ 7 → ⊥
     unfolding Walkable
-    no-within k =
-        let e = rw w at k in
-        let W = rw (at-within t n e (f .within-one e) (f .within-two e)) at (E .walkable) in W
+    no-within k = let W = rw (is-within (E .formed) (E .inside) w k) at (E .walkable) in W
 
     -- ---- the alternatives that are one term
 
@@ -209,32 +159,19 @@ module _ {t : List ℕ} {n : ℕ} (E : Expandable t n) where
       -- Four kinds are left.
       pub by-single-kind : {P : Type 0} → (v .kind ≡ 1 → P) → (v .kind ≡ 3 → P) → (v .kind ≡ 4 → P) → (v .kind ≡ 5 → P) → P
       by-single-kind p₁ p₃ p₄ p₅ =
-          by-kind (v .kind) (well-formed .known) p₁ (λ k. absurd (d k)) p₃ p₄ p₅ (λ k. absurd (g k)) (λ k. absurd (no-within k))
-
-      -- Each has one alternative but [*m:$], which may have an Empty in front of its run.
-      pub singles-counted : {b : Bool} → b ≡ repeats v → b ≡ false → single-count v ≡ length (alternatives-of t n)
-      unfolding single-count pick
-      singles-counted r x =
-          by-single-kind
-          (λ k. rw (k, atom-alternatives k) refl)
-          (λ k. elim (ℕ-discrete (v .max) unlimited) [
-            | yes u ↦ rw (k, u, unbounded-alternatives k u) (sym (length-with-empty (v .min) _))
-            | no l ↦ (let z : v .max ≡ 0 = no-repetition v r x k l in rw (k, finite-alternatives k l, z) refl)
-          ])
-          (λ k. rw (k, goto-alternatives k) refl)
-          (λ k. rw (k, nonconsec-alternatives k) refl)
+          by-kind (v .kind) (words .known) p₁ (λ k. absurd (d k)) p₃ p₄ p₅ (λ k. absurd (g k)) (λ k. absurd (no-within k))
 
       -- A finite [*] has nothing but copies behind its Empty.
       before-copies : {b : Bool} (i : ℕ) → i < length (alternatives-of t n) → b ≡ is-copies v i → b ≡ false → v .kind ≡ 3
           → (v .max ≡ unlimited → ⊥) → i < empties (v .min)
       unfolding is-copies empties pick
-      before-copies {b} i h c x k l = go (repeats v) refl
+      before-copies {b} i h c x k l = go (is-repeated v) refl
         where
-          go : (r : Bool) → repeats v ≡ r → i < empties (v .min)
+          go : (r : Bool) → is-repeated v ≡ r → i < empties (v .min)
           go true e = let q : leb (empties (v .min)) i ≡ false = sym (rw e at c) ∙ x in leb-false _ _ q
           go false e =
               let z : v .max ≡ 0 = no-repetition v (sym e) refl k l in
-              let m : v .min ≡ 0 = omega (arith, well-formed .consec-range k) in
+              let m : v .min ≡ 0 = omega (arith, words .consec-range k) in
               rw m (rw (finite-alternatives k l, z) at h)
 
       -- Alternative i, where it is not made of copies, is the one term that its node and number say.
@@ -251,7 +188,7 @@ module _ {t : List ℕ} {n : ℕ} (E : Expandable t n) where
             | no l ↦ (
                 let e = before-copies i h c x k l in
                 rw (k, lt-ltb _ _ e, finite-alternatives k l)
-                (nth-finite-empty (alternatives-of t (v .p)) (v .min) (v .max) i (well-formed .consec-range k) e))
+                (nth-finite-empty (alternatives-of t (v .p)) (v .min) (v .max) i (words .consec-range k) e))
           ])
           (λ k. rw (k, goto-alternatives k, only (goto-alternatives k)) refl)
           (λ k. rw (k, nonconsec-alternatives k, only (nonconsec-alternatives k)) refl)
@@ -270,9 +207,9 @@ module _ {t : List ℕ} {n : ℕ} (E : Expandable t n) where
           under x =
               by-single-kind
               (λ k. absurd (x k))
-              (λ k. well-formed .consec-under k)
-              (λ k. well-formed .goto-under k)
-              (λ k. well-formed .nonconsec-under k)
+              (λ k. words .consec-under k)
+              (λ k. words .goto-under k)
+              (λ k. words .nonconsec-under k)
 
 -- `single_term`, which has the operand's words under the name b and the Empties under the name e.
 module _ (t : List ℕ) (v : Node) where

@@ -18,9 +18,9 @@ use Rattle.meaning.specs.declared.SeqHop.{SeqHop}
 use Rattle.meaning.specs.declared.SeqHop.the-variants.{Fixed}
 use Rattle.meaning.specs.Expression.{a·, any}
 use Rattle.meaning.specs.Alternative.{guard, and-opt, SeqAlt, alternative, single, joined, join-rights, join-lefts, join-hops, fixed-from, copies, copies-from, with-empty, consec-finite, consec-unbounded, guard-each}
-use Rattle.meaning.proofs.Counting.{Tally, tally, tally-copies, tally-copies-from, tally-lefts, tally-hops, copies-tallied, copies-from-tallied}
+use Rattle.meaning.proofs.Counting.{Tally, tally, tally-copies, tally-lefts, tally-hops, copies-tallied}
 use Rattle.meaning.proofs.Members.{below-is-one-less}
-use Rattle.expand.specs.ByNumber.{nth, copies-count, copies-from-count, block-of, empties}
+use Rattle.expand.specs.ByNumber.{nth, copies-count, block-of, empties}
 use Rattle.expand.specs.declared.Block.{Block}
 use Rattle.expand.proofs.Arithmetic.{empties-few}
 
@@ -44,18 +44,8 @@ unfolding copies-count
 count-copies x zero = refl
 count-copies x (suc k) = ap (λ (z : ℕ). z * x .alternatives) (count-copies x k)
 
-count-copies-from : (x : Tally) (k count : ℕ)
-    → tally-copies-from x k count .alternatives ≡ copies-from-count (x .alternatives) k count
-unfolding copies-from-count
-count-copies-from x k zero = refl
-count-copies-from x k (suc count) = rw (count-copies x k, count-copies-from x (suc k) count) refl
-
 pub length-copies : (base : List SeqAlt) (k : ℕ) → length (copies base k) ≡ copies-count (length base) k
 length-copies base k = ap alternatives-in (copies-tallied base k) ∙ count-copies (tally base) k
-
-pub length-copies-from : (base : List SeqAlt) (k count : ℕ)
-    → length (copies-from base k count) ≡ copies-from-count (length base) k count
-length-copies-from base k count = ap alternatives-in (copies-from-tallied base k count) ∙ count-copies-from (tally base) k count
 
 -- ---- by number, positions as sums of products
 
@@ -101,7 +91,7 @@ nth-lefts h (x ∷ ls) rs (suc l) r p q =
     rw e (nth-back (join-rights h x rs) (join-lefts h ls rs) (l * length rs + r) ∙ nth-lefts h ls rs l r (omega arith) q
     ∙ ap (λ (z : SeqAlt). joined h z (nth rs r)) (nth-next x ls l))
 
--- Hops slowest.
+-- The alternatives of joined lists are numbered with the hops slowest.
 pub nth-hops : (hs : List SeqHop) (ls rs : List SeqAlt) (k l r : ℕ) → k < length hs → l < length ls → r < length rs
     → nth (join-hops hs ls rs) (k * (length ls * length rs) + (l * length rs + r)) ≡ joined (getD hs k (Fixed 0)) (nth ls l) (nth rs r)
 nth-hops [] ls rs k l r o p q = absurd (omega arith)
@@ -149,7 +139,7 @@ digits-below i hops a b p q h = record {
   right = mod-lt i q;
 }
 
--- Alternative i of a delay: "hops outermost .., then left, then right".
+-- Alternative i of a delay: "The hop varies slowest, then the left's alternative, then the right's".
 pub nth-delay : (hs : List SeqHop) (ls rs : List SeqAlt) (i : ℕ) → 0 < length ls → 0 < length rs → i < length (join-hops hs ls rs)
     → nth (join-hops hs ls rs) i ≡ joined (getD hs (i / length rs / length ls) (Fixed 0)) (nth ls (i / length rs % length ls)) (nth rs (i % length rs))
 nth-delay hs ls rs i p q h =
@@ -162,7 +152,7 @@ pub copies-index : (base : List SeqAlt) (k i : ℕ) → 0 < length base → i < 
 copies-index base k i p h =
     div-lt-iff-lt-mul {k = length base} {x = i} {y = length (copies base k)} p .1 (omega (arith, length-lefts (Fixed 1) (copies base k) base))
 
--- Alternative i of k + 2 copies: "earlier copies vary slowest".
+-- Alternative i of k + 2 copies: "the earlier a copy, the slower it varies".
 pub nth-copies : (base : List SeqAlt) (k i : ℕ) → 0 < length base → i < length (copies base (suc k))
     → nth (copies base (suc k)) i ≡ joined (Fixed 1) (nth (copies base k) (i / length base)) (nth base (i % length base))
 nth-copies base k i p h =
@@ -211,7 +201,7 @@ nth-block base k (suc more) i h = go (ltb i c) refl (λ p. nth-block base (suc k
 
 -- ---- repetitions
 
--- 01: "max(m,1)".
+-- SPECIFICATION, "Alternatives": "the larger of m and 1".
 pub at-least-one : (m : ℕ) → suc (below m) ≡ m - 1 + 1
 at-least-one m = omega (arith, below-is-one-less m)
 

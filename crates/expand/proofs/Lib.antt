@@ -4,8 +4,6 @@ pub mod Every
 pub mod ByKind
 pub mod Counted
 pub mod Outlines
-pub mod GuardFlags
-pub mod Outlining
 pub mod Numbers
 pub mod Written
 pub mod Room

@@ -1,38 +1,27 @@
--- What the outline's words say of a node that is known: how many alternatives it has, which node is left of it without the [*1]
--- over it, and whether there is a guard. And that its operands are known too.
-use mathlib.Core.Path.{_≡_, refl, sym, ap, _∙_, subst}
+-- What the outline says of a node that is known, for whoever takes numbers apart: the counts of its alternatives, the node that is left
+-- of it without the [*1] over it, and that its operands are known too.
+use mathlib.Core.Path.{_≡_, refl, sym, ap, _∙_}
 use mathlib.Core.List.{List, append-nil}
 use Prim.Native.Nat.{ℕ, zero, suc, _+_, _-_, _<_, _≤_, _/_, _%_}
 use native.Mathlib.Omega.{arith}
 use native.Mathlib.Nat.{div-eq-of-lt, mod-eq-of-lt, div-div-eq-div-mul, mul-comm}
 use native.Mathlib.Decide.{ℕ-discrete}
-use lib.ListN.{length, getD}
+use lib.ListN.{length}
 use borrow.Author.Tests.{ne-eqb}
 use Rattle.words.specs.Choice.{pick}
 use Rattle.meaning.specs.declared.Node.{Node}
 use Rattle.meaning.specs.declared.SeqHop.{SeqHop}
-use Rattle.meaning.specs.Tree.{finite, unbounded, Seq, atom, delay, consec, goto, nonconsec, throughout, within, node-at, tree-at, number, unlimited}
-use Rattle.meaning.proofs.Nodes.{number-of, at-atom}
+use Rattle.meaning.specs.Tree.{finite, Seq, consec, node-at, tree-at, unlimited}
 use Rattle.meaning.proofs.Ranges.{by-kind}
+use Rattle.outline.specs.Outline.{is-once, bare, count-in, bare-in, Outlined, Expandable, Known}
+use Rattle.outline.proofs.Laws.{Repetition}
+use Rattle.outline.proofs.ByWords.{is-atom, is-delay, is-finite, is-unbounded, is-goto, is-nonconsec, is-throughout}
+use Rattle.outline.proofs.Readers.{count-known as count-read, bare-known}
 use Rattle.expand.specs.declared.Parts.{Parts}
 use Rattle.expand.specs.declared.Block.{Block}
-use Rattle.expand.specs.ByNumber.{alternatives-of, hop-at, parts-of, copies-count, block-of, empties, copy-number, Expandable}
-use Rattle.expand.specs.Outline.{is-once, bare, guard-flag, outline-word, count-in, bare-in, flag-in, delay-parts, copies-block, DelayCounted, CopiesCounted, Noted, Outlined, Known}
+use Rattle.expand.specs.ByNumber.{alternatives-of, hop-at, parts-of, delay-parts, copies-count, block-of, copies-block, empties, copy-number, DelayCounted, CopiesCounted}
 use Rattle.expand.proofs.Arithmetic.{copies-monotone}
-use Rattle.expand.proofs.ByKind.{Repetition, few-alternatives, well-formed, is-delay, is-throughout, is-finite, is-unbounded, is-goto, is-nonconsec, no-within, copied-expandable, repeated-alternatives}
-
--- A tree's own word is among its words.
-own-word : (t o : List ℕ) (s : Seq) → Outlined t o s → Noted t o (number s)
-unfolding Outlined
-own-word t o (atom n a) O = O
-own-word t o (delay n l r m x) O = O .2
-own-word t o (consec n s m (finite zero)) O = O
-own-word t o (consec n s m (finite (suc x))) O = O .1
-own-word t o (consec n s m unbounded) O = O
-own-word t o (goto n s k) O = O
-own-word t o (nonconsec n s k) O = O
-own-word t o (throughout n c s) O = O .1
-own-word t o (within n s₁ s₂) O = O
+use Rattle.expand.proofs.ByKind.{no-within, copied-expandable, repeated-alternatives}
 
 outlined-copies : (t o : List ℕ) (n : ℕ) (s : Seq) (m x : ℕ) → 0 < x → Outlined t o (consec n s m (finite x)) → Outlined t o s
 unfolding Outlined
@@ -40,49 +29,42 @@ outlined-copies t o n s m zero h O = absurd (omega arith)
 outlined-copies t o n s m (suc x) h O = O .0
 
 module _ {t o : List ℕ} {n : ℕ} (E : Expandable t n) (K : Known t o n) where
-  word-is : getD o n 0 ≡ outline-word (tree-at t n)
-  word-is = subst (λ (m : ℕ). Noted t o m) (number-of t n) (own-word t o (tree-at t n) (K .outline))
-
   pub count-known : count-in o n ≡ length (alternatives-of t n)
-  unfolding count-in outline-word alternatives-of
-  count-known = rw word-is (omega (arith, few-alternatives E))
-
-  pub inside-outline : n < length o
-  inside-outline = omega (arith, E .inside, K .long)
+  unfolding alternatives-of
+  count-known = count-read E K
 
   -- ---- the operands
 
   module _ {v : Node} (w : v ≡ node-at t n) where
     pub left-known : v .kind ≡ 2 → Known t o (v .p)
     unfolding Outlined
-    left-known k = record { long = K .long; outline = (let O = rw (is-delay E w k) at (K .outline) in O .0) }
+    left-known k = record { long = K .long; outline = (let O = rw (is-delay (E .formed) (E .inside) w k) at (K .outline) in O .0) }
 
     pub right-known : v .kind ≡ 2 → Known t o (v .q)
     unfolding Outlined
-    right-known k = record { long = K .long; outline = (let O = rw (is-delay E w k) at (K .outline) in O .1) }
+    right-known k = record { long = K .long; outline = (let O = rw (is-delay (E .formed) (E .inside) w k) at (K .outline) in O .1) }
 
     pub guarded-known : v .kind ≡ 6 → Known t o (v .q)
     unfolding Outlined
-    guarded-known k = record { long = K .long; outline = (let O = rw (is-throughout E w k) at (K .outline) in O .0) }
+    guarded-known k = record { long = K .long; outline = (let O = rw (is-throughout (E .formed) (E .inside) w k) at (K .outline) in O .0) }
 
     pub copied-known : Repetition v → Known t o (v .p)
     copied-known R = record {
       long = K .long;
-      outline = outlined-copies t o n (tree-at t (v .p)) (v .min) (v .max) (R .live) (rw (is-finite E w (R .kind) (R .limited)) at (K .outline));
+      outline = outlined-copies t o n (tree-at t (v .p)) (v .min) (v .max) (R .live) (rw (is-finite (E .formed) (E .inside) w (R .kind) (R .limited)) at (K .outline));
     }
 
 -- ---- the node that is left without the [*1] over it
 
--- It is no higher, known too, and has the same alternatives.
+-- The node that is left is known too, and has the same alternatives.
 pub record Bared (t o : List ℕ) (n m : ℕ) : Type 0 where
   pub node : Expandable t m
   pub known : Known t o m
-  pub lower : m ≤ n
   pub same : alternatives-of t m ≡ alternatives-of t n
 
 module _ {t o : List ℕ} where
   itself : {n : ℕ} → Expandable t n → Known t o n → bare (tree-at t n) ≡ n → Bared t o n (bare (tree-at t n))
-  itself E K e = rw e (record { node = E; known = K; lower = omega arith; same = refl })
+  itself E K e = rw e (record { node = E; known = K; same = refl })
 
   -- [*1] has its operand's alternatives.
   once : (n : ℕ) (E : Expandable t n) (K : Known t o n) → node-at t n .kind ≡ 3 → node-at t n .min ≡ 1 → node-at t n .max ≡ 1
@@ -91,48 +73,35 @@ module _ {t o : List ℕ} where
   once n E K k m x below =
       let v = node-at t n in
       let R : Repetition v = record { kind = k; limited = λ u. absurd (omega arith); live = omega arith } in
-      let B = below (v .p) (well-formed E refl .consec-under k) (copied-expandable E refl R) (copied-known E K refl R) in
-      let tree : bare (tree-at t n) ≡ bare (tree-at t (v .p)) = ap bare (is-finite E refl k (R .limited)) ∙ rw (m, x) refl in
+      let B = below (v .p) (E .formed .each n (E .inside) .consec-under k) (copied-expandable E refl R) (copied-known E K refl R) in
+      let tree : bare (tree-at t n) ≡ bare (tree-at t (v .p)) = ap bare (is-finite (E .formed) (E .inside) refl k (R .limited)) ∙ rw (m, x) refl in
       let alts : alternatives-of t n ≡ alternatives-of t (v .p) = repeated-alternatives E refl R ∙ rw (m, x) (append-nil _) in
-      rw tree (record { node = B .node; known = B .known; lower = omega (arith, B .lower, well-formed E refl .consec-under k); same = B .same ∙ sym alts })
+      rw tree (record { node = B .node; known = B .known; same = B .same ∙ sym alts })
 
   bared : (fuel n : ℕ) → n < fuel → (E : Expandable t n) (K : Known t o n) → Bared t o n (bare (tree-at t n))
   unfolding bare is-once pick
   bared zero n l E K = absurd (omega arith)
   bared (suc fuel) n l E K =
-      by-kind (v .kind) (well-formed E refl .known)
-      (λ k. itself E K (ap bare (at-atom t n k)))
-      (λ k. itself E K (ap bare (is-delay E refl k)))
+      by-kind (v .kind) (E .formed .each n (E .inside) .known)
+      (λ k. itself E K (ap bare (is-atom (E .formed) (E .inside) refl k)))
+      (λ k. itself E K (ap bare (is-delay (E .formed) (E .inside) refl k)))
       (λ k. elim (ℕ-discrete (v .max) unlimited) [
-        | yes u ↦ itself E K (ap bare (is-unbounded E refl k u))
+        | yes u ↦ itself E K (ap bare (is-unbounded (E .formed) (E .inside) refl k u))
         | no f ↦ elim (ℕ-discrete (v .min) 1) [
-          | no z ↦ itself E K (ap bare (is-finite E refl k f) ∙ rw (ne-eqb _ _ z) refl)
+          | no z ↦ itself E K (ap bare (is-finite (E .formed) (E .inside) refl k f) ∙ rw (ne-eqb _ _ z) refl)
           | yes m ↦ elim (ℕ-discrete (v .max) 1) [
-            | no z ↦ itself E K (ap bare (is-finite E refl k f) ∙ rw (m, ne-eqb _ _ z) refl)
+            | no z ↦ itself E K (ap bare (is-finite (E .formed) (E .inside) refl k f) ∙ rw (m, ne-eqb _ _ z) refl)
             | yes x ↦ once n E K k m x (λ p q. bared fuel p (omega arith))
           ]
         ]
       ])
-      (λ k. itself E K (ap bare (is-goto E refl k)))
-      (λ k. itself E K (ap bare (is-nonconsec E refl k)))
-      (λ k. itself E K (ap bare (is-throughout E refl k)))
+      (λ k. itself E K (ap bare (is-goto (E .formed) (E .inside) refl k)))
+      (λ k. itself E K (ap bare (is-nonconsec (E .formed) (E .inside) refl k)))
+      (λ k. itself E K (ap bare (is-throughout (E .formed) (E .inside) refl k)))
       (λ k. absurd (no-within E refl k))
     where
       v : Node
       v = node-at t n
-
-  module _ {n : ℕ} (E : Expandable t n) (K : Known t o n) where
-    few-nodes : bare (tree-at t n) < 4096
-    few-nodes = omega (arith, bared (suc n) n (omega arith) E K .lower, E .inside, E .formed .few)
-
-    pub bare-known : bare-in o n ≡ bare (tree-at t n)
-    unfolding bare-in outline-word alternatives-of
-    bare-known = rw (word-is E K) (omega (arith, few-alternatives E, few-nodes))
-
-    -- .. and the word says whether an alternative has a guard.
-    pub flag-known : flag-in o n ≡ guard-flag (tree-at t n)
-    unfolding flag-in outline-word alternatives-of
-    flag-known = rw (word-is E K) (omega (arith, few-alternatives E, few-nodes))
 
   pub bare-found : {n m : ℕ} → Expandable t n → Known t o n → m ≡ bare-in o n → Bared t o n m
   bare-found {n} E K e = rw (e, bare-known E K) (bared (suc n) n (omega arith) E K)

@@ -1,4 +1,4 @@
--- The steps of an alternative, five words each, find room in work: 01 gives 16 words for each entry, and an alternative has no
+-- The steps of an alternative, five words each, find room in work: the specification gives 16 words for each entry, and an alternative has no
 -- more steps and guard atoms than its node has entries.
 use mathlib.Core.Path.{_≡_}
 use mathlib.Core.List.{List, [], _∷_}
@@ -32,6 +32,6 @@ module _ (t : List ℕ) (n i : ℕ) (N : Numbered t n i) where
   size-within-room =
       omega (arith, size-within-entries (alternatives-of t n) i (N .index), a-walkable-tree-is-bounded (N .node .room) (tree-at t n) (N .node .walkable) .fits)
 
-  -- So the steps lie in the first half of 16 words an entry.
+  -- The steps lie in the first half of 16 words an entry.
   pub steps-within-room : (h : SeqHop) → length (alternative-words h (alternatives-of t n) i) ≤ 5 * N .node .room
   steps-within-room h = omega (arith, length-of-alternative h (alternatives-of t n) i, size-within-room)

@@ -16,7 +16,7 @@ use Rattle.meaning.proofs.Ranges.{a-formed-tree-is-ranged}
 use Rattle.meaning.proofs.Bounds.{TermSmall, StepSmall, AltsSmall, expand-small}
 use Rattle.expand.specs.ByNumber.{alternatives-of, nth}
 
--- Of a small term, the atom that is kept in a word.
+-- The atom of a small term that is kept in a word is small.
 small-atom : (x : SeqTerm) → TermSmall x → term-atom x < 65536
 small-atom (BoolTerm a) small = small
 small-atom (Goto b k) small = small

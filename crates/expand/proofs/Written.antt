@@ -21,8 +21,8 @@ use Rattle.meaning.specs.Tree.{node-at, tree-at}
 use Rattle.meaning.specs.Alternative.{SeqAlt, step, single, rehop, joined, expand, copies}
 use Rattle.expand.specs.declared.Parts.{Parts}
 use Rattle.expand.specs.declared.Block.{Block}
-use Rattle.expand.specs.ByNumber.{alternatives-of, copies-of, nth, alternative-words, is-copies, single-term, copy-number, Numbered, NumberedCopies}
-use Rattle.expand.specs.Outline.{count-in, bare-in, delay-parts, copies-block, Known}
+use Rattle.expand.specs.ByNumber.{alternatives-of, copies-of, nth, alternative-words, is-copies, single-term, copy-number, delay-parts, copies-block, NumberedCopies, OutlinedNumber, OutlinedCopies}
+use Rattle.outline.specs.Outline.{count-in, bare-in}
 use Rattle.expand.proofs.Every.{has-step, each-expanded, each-copies, each-nth}
 use Rattle.expand.proofs.ByKind.{some-alternatives, atom-alternative, single-alternative}
 use Rattle.expand.proofs.Numbers.{Copied, nth-of-delay, nth-of-throughout, nth-of-block, copy-counted, same-alternatives}
@@ -47,7 +47,7 @@ words-of : (h : SeqHop) (xs ys : List SeqAlt) (i j : ℕ) → nth xs i .steps �
 unfolding alternative-words
 words-of h xs ys i j e = ap (λ (z : List SeqStep). steps-words (rehop h z)) e
 
--- .. of one that is joined of two: the outer hop leads to the left, the inner one to the right.
+-- The words of an alternative that is joined of two: the outer hop leads to the left, the inner one to the right.
 words-of-two : (h h′ : SeqHop) (xs ls rs : List SeqAlt) (i l r : ℕ) → nth xs i ≡ joined h′ (nth ls l) (nth rs r)
     → 0 < length (nth ls l .steps)
     → alternative-words h xs i ≡ alternative-words h ls l ++ alternative-words h′ rs r
@@ -57,7 +57,7 @@ words-of-two h h′ xs ls rs i l r e p =
     let rest = rehop h′ (nth rs r .steps) in
     ap (λ (y : SeqAlt). steps-words (rehop h (y .steps))) e ∙ ap steps-words (rehop-append h ss rest p) ∙ steps-append (rehop h ss) rest
 
--- .. of one that is a single term.
+-- The words of an alternative that is a single term.
 words-of-one : (h : SeqHop) (xs : List SeqAlt) (i : ℕ) (s : SeqStep) → nth xs i ≡ single (s .term) → s .hop ≡ h
     → alternative-words h xs i ≡ step-words s
 unfolding alternative-words steps-words
@@ -83,10 +83,10 @@ node-words t n h i = alternative-words h (alternatives-of t n) i
 abbrev copies-words : List ℕ → ℕ → ℕ → SeqHop → ℕ → List ℕ
 copies-words t n k h i = alternative-words h (copies-of (alternatives-of t n) k) i
 
--- [*1], passed at one stroke
-module _ {t q : List ℕ} {n i m : ℕ} (h : SeqHop) (o : List ℕ) (at : ℕ) (N : Numbered t n i) (K : Known t q n) (e : m ≡ bare-in q n) where
+-- The words of an alternative of a node are those of the node that is left without the [*1] over it.
+module _ {t q : List ℕ} {n i m : ℕ} (h : SeqHop) (o : List ℕ) (at : ℕ) (N : OutlinedNumber t q n i) (e : m ≡ bare-in q n) where
   bare-words : node-words t m h i ≡ node-words t n h i
-  bare-words = rw (same-alternatives N K e) refl
+  bare-words = rw (same-alternatives N e) refl
 
   pub bare-room : at + length (node-words t n h i) ≤ length o → at + length (node-words t m h i) ≤ length o
   bare-room room = rw bare-words room
@@ -94,8 +94,8 @@ module _ {t q : List ℕ} {n i m : ℕ} (h : SeqHop) (o : List ℕ) (at : ℕ) (
   pub bare-written : {o₁ : List ℕ} {z : ℕ} → Wrote o o₁ at z (node-words t m h i) → Wrote o o₁ at z (node-words t n h i)
   bare-written x = same-words bare-words x
 
-module _ {t q : List ℕ} {n i : ℕ} {v : Node} (h : SeqHop) (o : List ℕ) (at : ℕ) (N : Numbered t n i) (K : Known t q n) (room : at + length (node-words t n h i) ≤ length o) (w : v ≡ node-at t n) where
-  -- delay
+module _ {t q : List ℕ} {n i : ℕ} {v : Node} (h : SeqHop) (o : List ℕ) (at : ℕ) (N : OutlinedNumber t q n i) (room : at + length (node-words t n h i) ≤ length o) (w : v ≡ node-at t n) where
+  -- The words of a delay's alternative are those of its left part, then those of its right part.
   module _ {s : Parts} (k : v .kind ≡ 2) (c : s ≡ delay-parts q v i) where
     abbrev left : List ℕ
     left = node-words t (v .p) h (s .left)
@@ -106,7 +106,7 @@ module _ {t q : List ℕ} {n i : ℕ} {v : Node} (h : SeqHop) (o : List ℕ) (at
     delay-words : node-words t n h i ≡ left ++ right
     delay-words =
         words-of-two h (s .hop) (alternatives-of t n) (alternatives-of t (v .p)) (alternatives-of t (v .q)) i (s .left) (s .right)
-        (nth-of-delay N K w k c) (some-steps t (v .p) (s .left))
+        (nth-of-delay N w k c) (some-steps t (v .p) (s .left))
 
     pub left-room : at + length (node-words t (v .p) h (s .left)) ≤ length o
     left-room = first-room at left right delay-words room
@@ -119,11 +119,11 @@ module _ {t q : List ℕ} {n i : ℕ} {v : Node} (h : SeqHop) (o : List ℕ) (at
           → Wrote o o₂ at y (node-words t n h i)
       delay-written y = both-done delay-words x y
 
-  -- throughout
+  -- The words of a throughout's alternative are those of its operand's.
   module _ (k : v .kind ≡ 6) where
     throughout-words : node-words t n h i ≡ node-words t (v .q) h i
     throughout-words =
-        words-of h (alternatives-of t n) (alternatives-of t (v .q)) i i (ap (λ (y : SeqAlt). y .steps) (nth-of-throughout N K w k))
+        words-of h (alternatives-of t n) (alternatives-of t (v .q)) i i (ap (λ (y : SeqAlt). y .steps) (nth-of-throughout N w k))
 
     pub guarded-room : at + length (node-words t (v .q) h i) ≤ length o
     guarded-room = rw throughout-words at room
@@ -132,12 +132,12 @@ module _ {t q : List ℕ} {n i : ℕ} {v : Node} (h : SeqHop) (o : List ℕ) (at
         → Wrote o o₁ at z (node-words t n h i)
     throughout-written x = same-words (sym throughout-words) x
 
-  -- copies
+  -- The words of a repetition's alternative are those of its block of copies.
   module _ (R : Copied v i) {b : Block} (g : b ≡ copies-block q v i) where
     block-words : node-words t n h i ≡ copies-words t (v .p) (b .later) h (b .index)
     block-words =
         words-of h (alternatives-of t n) (copies-of (alternatives-of t (v .p)) (b .later)) i (b .index)
-        (ap (λ (y : SeqAlt). y .steps) (nth-of-block N K w R g))
+        (ap (λ (y : SeqAlt). y .steps) (nth-of-block N w R g))
 
     pub block-room : at + length (copies-words t (v .p) (b .later) h (b .index)) ≤ length o
     block-room = rw block-words at room
@@ -146,9 +146,9 @@ module _ {t q : List ℕ} {n i : ℕ} {v : Node} (h : SeqHop) (o : List ℕ) (at
         → Wrote o o₁ at z (node-words t n h i)
     block-written x = same-words (sym block-words) x
 
-  -- an atom
+  -- The words of an atom's alternative are those of one step.
   atom-words : v .kind ≡ 1 → (s : SeqStep) → s .term ≡ BoolTerm (v .p) → s .hop ≡ h → node-words t n h i ≡ step-words s
-  atom-words k s e f = words-of-one h (alternatives-of t n) i s (atom-alternative (N .node) w k i (N .index) ∙ ap single (sym e)) f
+  atom-words k s e f = words-of-one h (alternatives-of t n) i s (atom-alternative (N .numbered .node) w k i (N .numbered .index) ∙ ap single (sym e)) f
 
   pub atom-room : v .kind ≡ 1 → at + 5 ≤ length o
   atom-room k = let s = step (BoolTerm (v .p)) h in rw (atom-words k s refl refl, length-step-words s) at room
@@ -157,11 +157,11 @@ module _ {t q : List ℕ} {n i : ℕ} {v : Node} (h : SeqHop) (o : List ℕ) (at
       → Wrote o o₁ at z (step-words s) → Wrote o o₁ at z (node-words t n h i)
   atom-written {s = s} k e f y = same-words (sym (atom-words k s e f)) y
 
-  -- one term
+  -- The words of an alternative that is one term are those of one step.
   module _ {b : Bool} (d : v .kind ≡ 2 → ⊥) (g : v .kind ≡ 6 → ⊥) (c : b ≡ is-copies v i) (x : b ≡ false) where
     single-words : (s : SeqStep) → s .term ≡ single-term t v i → s .hop ≡ h → node-words t n h i ≡ step-words s
     single-words s e f =
-        words-of-one h (alternatives-of t n) i s (single-alternative (N .node) w d g i (N .index) c x ∙ ap single (sym e)) f
+        words-of-one h (alternatives-of t n) i s (single-alternative (N .numbered .node) w d g i (N .numbered .index) c x ∙ ap single (sym e)) f
 
     pub single-room : at + 5 ≤ length o
     single-room = let s = step (single-term t v i) h in rw (single-words s refl refl, length-step-words s) at room
@@ -178,7 +178,7 @@ copies-left t n i h zero = []
 copies-left t n i h (suc later) =
     node-words t n h (copy-number (length (alternatives-of t n)) i later) ++ copies-left t n i (Fixed 1) later
 
--- The last of them stands behind those of the number that is left without it.
+-- The words of the last copy stand behind those of the number that is left without it.
 last-of-them : (t : List ℕ) (n i : ℕ) (h : SeqHop) (later : ℕ)
     → let a = length (alternatives-of t n) in copies-left t n i h (suc (suc later)) ≡ copies-left t n (i / a) h (suc later) ++ node-words t n (Fixed 1) (i % a)
 unfolding copies-left copy-number
@@ -191,7 +191,7 @@ last-of-them t n i h (suc later) =
     ap (λ (l : List ℕ). next ++ l) (last-of-them t n i (Fixed 1) later)
     ∙ sym (append-assoc next (copies-left t n (i / a) (Fixed 1) (suc later)) (node-words t n (Fixed 1) (i % a)))
 
--- All of them are the copies' alternative.
+-- The words of all copies are those of the copies' alternative.
 all-of-them : (t : List ℕ) (n k i : ℕ) (h : SeqHop) → 0 < length (alternatives-of t n) → i < length (copies-of (alternatives-of t n) k)
     → copies-words t n k h i ≡ copies-left t n i h (suc k)
 unfolding copies-left copies-of copy-number
@@ -218,14 +218,14 @@ repeating-begins {t} {n} {k} {i} h o at C = record {
 }
 
 module _ {t q : List ℕ} {n k i : ℕ} {h : SeqHop} {o : List ℕ} {at : ℕ} {o′ : List ℕ} {hop : SeqHop} {p left d : ℕ}
-    (C : NumberedCopies t n k i) (K : Known t q n) (R : Repeating t n k i h o at o′ hop p left) (m : 0 < left)
+    (C : OutlinedCopies t q n k i) (R : Repeating t n k i h o at o′ hop p left) (m : 0 < left)
     (e : d ≡ copy-number (count-in q n) i (left - 1)) where
-  -- The next copy, then the others.
+  -- The words of the copies that are left are those of the next copy, then those of the others.
   next-of-them : copies-left t n i hop left ≡ node-words t n hop d ++ copies-left t n i (Fixed 1) (left - 1)
   unfolding copies-left
   next-of-them =
       let s : left ≡ suc (left - 1) = omega arith in
-      ap (copies-left t n i hop) s ∙ rw (copy-counted C K (left - 1) e) refl
+      ap (copies-left t n i hop) s ∙ rw (copy-counted C (left - 1) e) refl
 
   pub copy-room : at + length (copies-words t n k h i) ≤ length o → p + length (node-words t n hop d) ≤ length o′
   copy-room room =

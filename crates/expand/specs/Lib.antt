@@ -1,2 +1,1 @@
 pub mod ByNumber
-pub mod Outline

@@ -1,13 +1,12 @@
 -- Laws of the assertions, as the code meets them: nodes that are put one after the other, and what a tree lowers to. They assume
 -- nothing.
 use mathlib.Core.Path.{_≡_, refl, sym, ap, _∙_}
-use mathlib.Core.Bool.{Bool}
-use mathlib.Core.List.{List, [], _∷_, _++_}
+use mathlib.Core.List.{List, _∷_, _++_}
 use Prim.Native.Nat.{ℕ, _+_, _≤_, _<_}
 use native.Mathlib.Omega.{arith}
 use native.Mathlib.Numerals.{add-one}
 use lib.Dec.{eqb}
-use lib.ListN.{length, getD, take, drop, length-append, drop-of-length-le}
+use lib.ListN.{length, getD, take, drop, drop-of-length-le}
 use lib.Seq.{drop-cons, length-take-le}
 use borrow.Author.Tests.{eq-eqb, ne-eqb}
 use Rattle.words.specs.Choice.{pick, pick-true, pick-false, pick-case}
@@ -37,7 +36,7 @@ module _ {nodes : List (List ℕ)} {o o′ : List ℕ} {place n : ℕ} (P : Plan
   unfolding words-in here
   in-two = rw (drop-cons nodes n none h, add-one n) refl
 
-  -- It finds room.
+  -- The node that is put next finds room.
   pub room-for-a-node : length (words-in nodes) ≤ length o → place + 5 ≤ length o′
   unfolding here
   room-for-a-node fits = omega (arith, P .going .place, P .going .long, ap length in-two)
@@ -81,7 +80,7 @@ module _ {room : ℕ} (h : 25 ≤ room) where
       Fits : List ℕ → Type 0
       Fits l = length l ≤ room
 
--- By its number.
+-- The tree of an assertion, by the assertion's number.
 past-two : (number : ℕ) → (number ≡ 1 → ⊥) → (number ≡ 2 → ⊥) → tree-of number ≡ pick (eqb number 3) (words-in wrong-in-row) (words-in wrong-at-start)
 unfolding tree-of
 past-two number one two = pick-false _ _ (ne-eqb number 1 one) ∙ pick-false _ _ (ne-eqb number 2 two)
@@ -112,7 +111,7 @@ module _ (number : ℕ) {o tree : List ℕ} {words : ℕ} (long : length o ≡ 2
   pub tree-as-long : words ≡ length (take words tree)
   tree-as-long = sym (length-take-le words tree tree-inside)
 
-  -- What it lowers to is the assertion's listing.
+  -- What an assertion's tree lowers to is the assertion's listing.
   pub assertion-listed : (work : ℕ) {out out′ : List ℕ} {count : ℕ} → Wrote out out′ 0 count (listed (take words tree) work (length out))
       → Wrote out out′ 0 count (listed (tree-of number) work (length out))
   assertion-listed work {out} v = same-words (ap (λ (t : List ℕ). listed t work (length out)) tree-planted) v

@@ -2,7 +2,7 @@
 use mathlib.Core.Path.{_≡_, refl, sym, ap, ap₂, _∙_}
 use mathlib.Core.Bool.{Bool, not}
 use mathlib.Core.List.{List, [], _∷_, _++_}
-use Prim.Native.Nat.{ℕ, zero, suc, _-_, _≤_, _<_}
+use Prim.Native.Nat.{ℕ, _-_, _≤_, _<_}
 use native.Mathlib.Omega.{arith}
 use lib.Dec.{eqb, leb}
 use lib.ListN.{length, getD}
@@ -14,20 +14,20 @@ use Rattle.correction.specs.declared.Leaving.the-variants.{Nothing, Kept, Repla
 use Rattle.sensor.specs.Sensor.{defective-at, is-hot, expected-at}
 use Rattle.frame.specs.Atoms.{bit-of, coming-atoms, wrong-at, leaving-atoms, going-atoms, atoms-at}
 
--- Of the pixel that comes in.
+-- The atoms of the pixel that comes in.
 pub coming-told : (tick pixel : ℕ) {row column x y z : ℕ} {hot bad : Bool} → tick < 360960 → row ≡ row-of tick → column ≡ column-of tick
     → bad ≡ defective-at row column → hot ≡ is-hot pixel → x ≡ bit-of hot → y ≡ bit-of (not bad) → z ≡ bit-of bad
     → x ∷ y ∷ z ∷ [] ≡ coming-atoms tick pixel
 unfolding coming-atoms
 coming-told tick pixel h r c d o x y z = rw (x, y, z, o, d, r, c) (sym (pick-false _ _ (lt-leb 360960 tick h)))
 
--- Of a value and what is to leave.
+-- The atom that compares a value with what is to leave.
 pub wrong-told : (tick value : ℕ) {row column expected r : ℕ} → row ≡ row-of tick → column ≡ column-of tick → expected ≡ expected-at row column
     → r ≡ bit-of (not (eqb value expected)) → r ≡ wrong-at tick value
 unfolding wrong-at
 wrong-told tick value r c e q = q ∙ rw (e, r, c) refl
 
--- Of what leaves.
+-- The atoms of what leaves.
 module _ (tick : ℕ) (leaving : Leaving) (h : 2 ≤ tick) where
   goes : {atoms : List ℕ} → atoms ≡ leaving-atoms (tick - 2) leaving → atoms ≡ going-atoms tick leaving
   unfolding going-atoms

@@ -62,7 +62,7 @@ unfolding stack-left
 length-stack (Match bit) stack = length-replicate {A = ℕ} (length stack) 0
 length-stack (RefusedTick number place) stack = refl
 
--- Both slices of registers are as long after it as before, and so is the stack.
+-- Both slices of registers are as long after a tick as before, and so is the stack.
 pub next-stays-long : {ws cur cur′ atoms next next′ stack stack′ : List ℕ} {r : Ticked} → Advanced ws cur cur′ atoms next next′ stack stack′ r
     → length next′ ≡ length next
 next-stays-long {ws} {cur} {atoms = atoms} {next} {r = r} A = ap length (A .next-holds) ∙ length-next r ws cur atoms next
@@ -104,7 +104,7 @@ watching-begins ws rows stack R r s = record {
   rest = refl;
 }
 
--- A tick of it.
+-- A tick of a frame that is watched.
 module _ {map ws rows cur next stack : List ℕ} {reached t : ℕ} (W : Watching map ws rows cur next stack reached t) (h : t < 360962)
     {rows′ : List ℕ} {pixel : ℕ} {given : Output} (p : pixel ≡ pixel-of t) (S : Stepped map rows rows′ t pixel given)
     {atoms : List ℕ} (a : atoms ≡ atoms-at t pixel (given .leaving))

@@ -15,17 +15,17 @@ use Rattle.sensor.specs.Sensor.{defective-at, is-hot, expected-at}
 unfoldable pub bit-of : Bool → ℕ
 bit-of fact = pick fact 1 0
 
--- Of the pixel that comes in: it is hot, the sensor is not defective there, it is. None comes in after the frame.
+-- The atoms of the pixel that comes in: it is hot, the sensor is not defective there, it is. None comes in after the frame.
 unfoldable pub coming-atoms : ℕ → ℕ → List ℕ
 coming-atoms tick pixel =
     let bad = defective-at (row-of tick) (column-of tick) in
     pick (leb 360960 tick) (0 ∷ 0 ∷ 0 ∷ []) (bit-of (is-hot pixel) ∷ bit-of (not bad) ∷ bit-of bad ∷ [])
 
--- Of a value and the tick at which its pixel came in: it is not the one that is to leave.
+-- The atom of a value and the tick at which its pixel came in: it is not the one that is to leave.
 unfoldable pub wrong-at : ℕ → ℕ → ℕ
 wrong-at tick value = bit-of (not (eqb value (expected-at (row-of tick) (column-of tick))))
 
--- Of what leaves: it was replaced, it is as it came, it is wrong.
+-- The atoms of what leaves: it was replaced, it is as it came, it is wrong.
 unfoldable pub leaving-atoms : ℕ → Leaving → List ℕ
 leaving-atoms tick Nothing = 0 ∷ 0 ∷ 0 ∷ []
 leaving-atoms tick (Kept value) = 0 ∷ 1 ∷ wrong-at tick value ∷ []

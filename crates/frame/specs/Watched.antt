@@ -40,7 +40,7 @@ unfoldable pub said : Ticked → ℕ → Verdict → Verdict
 said (Match bit) t later = pick (eqb bit 1) (Alarm t) later
 said (RefusedTick number place) t later = Refused
 
--- What the listing says of so many ticks from this one on, and from these registers.
+-- What the listing says of so many ticks from a tick on, and from the registers before it.
 unfoldable pub watched-from : (ℕ → List ℕ) → List ℕ → ℕ → ℕ → List ℕ → Verdict
 watched-from atoms ws zero t registers = Quiet
 watched-from atoms ws (suc ticks) t registers =

@@ -9,12 +9,12 @@ ghost use Rattle.frame.specs.Atoms.{bit-of, coming-atoms, wrong-at, goin
 // The pixel that comes in is hot.
 pub const HOT_IN: u32 = 0;
 
-// The sensor is not defective there; it is.
+// The sensor is not defective at the pixel that comes in; it is.
 pub const GOOD_IN: u32 = 1;
 
 pub const BAD_IN: u32 = 2;
 
-// A row begins; none does.
+// A row begins at the tick; none does.
 pub const ROW_START: u32 = 3;
 
 pub const IN_ROW: u32 = 4;
@@ -24,7 +24,7 @@ pub const REPLACED: u32 = 5;
 
 pub const KEPT: u32 = 6;
 
-// It has another value than its row and the one above give.
+// The pixel that leaves has another value than its row and the one above give.
 pub const WRONG: u32 = 7;
 
 // A fact as an atom.

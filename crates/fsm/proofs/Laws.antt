@@ -1,4 +1,5 @@
 -- The stores of the machines, as the code meets them. They assume nothing.
+-- m is a machine, A are the words of its activation.
 use mathlib.Core.Path.{_≡_, refl, sym, ap, _∙_}
 use mathlib.Core.List.{List, [], _∷_, _++_, append-nil, append-assoc}
 use Prim.Native.Nat.{ℕ, suc, _+_, _-_, _<_, _≤_}
@@ -7,253 +8,200 @@ use native.Mathlib.Nat.{add-zero, sub-zero}
 use native.Mathlib.Numerals.{add-one}
 use lib.ListN.{length, length-append}
 use Rattle.words.specs.Written.{Wrote}
-use Rattle.words.proofs.Laws.{Going, begin, go, last, done, same-words, same-room, first-room, second-room, both-done, third-room, three-done}
+use Rattle.words.proofs.Laws.{Going, begin, go, last, done, two-parts, three-parts, same-words, same-room, first-room as front-room, second-room as behind-room, both-done, third-room, three-done}
 use Rattle.term.specs.Steps.{term-atom}
-use Rattle.meaning.specs.Expression.{gto, ncx, crl}
+use Rattle.term.specs.declared.Kept.{Kept}
+use Rattle.meaning.specs.Expression.{gto, ncx}
 use Rattle.meaning.specs.declared.SeqTerm.{SeqTerm}
 use Rattle.meaning.specs.declared.SeqTerm.the-variants.{Nonconsec}
-use Rattle.step_text.specs.Text.{atom-word, register-word, any-word, not-word, and-word, or-word, store-word, at-least-one, term-registers, term-text}
+use Rattle.step_text.specs.Text.{atom-word, register-word, any-word, not-word, and-word, or-word, store-word, at-least-one, term-registers, TermFits}
 use Rattle.step_text.proofs.Laws.{at-least-some, at-least-itself}
-use Rattle.fsm.specs.Stores.{goto-stage-words, goto-store-words, nonconsec-store-words, run-stage-words, term-store-words}
+use Rattle.current.specs.Walk.{Ready}
+use Rattle.fsm.specs.declared.Machine.{Machine}
+use Rattle.fsm.specs.Stores.{machine, available, goto-first, goto-end, goto-second, goto-stage, goto-stage-words, goto-store-words, match-text, nonconsec-store-words, run-stage, run-top, run-stage-words, run-store-words, term-store-words, Started}
 
--- An activation among words.
-pub after-one : {o o₁ o₂ o₃ A ws : List ℕ} {at a c p x : ℕ} → Wrote o o₁ at a (x ∷ []) → Wrote o₁ o₂ a c A → Wrote o₂ o₃ c p ws → Wrote o o₃ at p (x ∷ (A ++ ws))
-after-one u v w = three-done refl u v w
+-- Fewer registers of a machine.
+module _ {W : List ℕ} {a : Kept} {k r : ℕ} {m : Machine} where
+  pub fewer : {i j : ℕ} → Started W a k r m j → i ≤ j → Started W a k r m i
+  fewer S h = record { ready = S .ready; atom = S .atom; register = omega (arith, h, S .register) }
 
-pub after-three : {o o₁ o₂ o₃ A ws : List ℕ} {at a c p x y z : ℕ} → Wrote o o₁ at a (x ∷ y ∷ z ∷ []) → Wrote o₁ o₂ a c A → Wrote o₂ o₃ c p ws → Wrote o o₃ at p (x ∷ y ∷ z ∷ (A ++ ws))
-after-three u v w = three-done refl u v w
+  pub fewer-than-all : {i : ℕ} → Started W a k r m (m .count - 1) → i < m .count → Started W a k r m i
+  fewer-than-all S h = fewer S (omega (arith, h))
 
--- The loop of `goto_later`: i stages are written.
-abbrev stage-words : ℕ → ℕ → List ℕ
-stage-words b r = atom-word b ∷ any-word ∷ register-word (r - 1) ∷ and-word ∷ atom-word b ∷ any-word ∷ not-word ∷ register-word r ∷ and-word ∷ or-word ∷ store-word gto r ∷ []
+  pub without-extension : Started W a k r m (at-least-one (m .count)) → Started W a k r m (m .count - 1)
+  without-extension S = fewer S (omega (arith, at-least-itself (m .count)))
 
-abbrev stages-from : ℕ → ℕ → ℕ → List ℕ
-stages-from b r k = goto-stage-words b r k (register-word (r - 1) ∷ [])
+-- `goto_first` and `goto_second`: the activation among other words; `goto_later`: a register instead.
+module _ (m : Machine) {A o o₁ o₂ o₃ : List ℕ} {at p₁ p₂ p : ℕ} where
+  pub first-done : Wrote o o₁ at p₁ (register-word (m .register) ∷ []) → Wrote o₁ o₂ p₁ p₂ A
+      → Wrote o₂ o₃ p₂ p (or-word ∷ atom-word (m .atom) ∷ any-word ∷ not-word ∷ and-word ∷ store-word gto (m .register) ∷ []) → Wrote o o₃ at p (goto-first m A)
+  first-done u v w = same-words (ap (λ (l : List ℕ). register-word (m .register) ∷ l) (sym (append-assoc A (or-word ∷ []) _))) (three-parts u v w)
 
-pub record Staging (b : ℕ) (o : List ℕ) (at r k : ℕ) (o′ : List ℕ) (p i : ℕ) : Type 0 where
-  pub turn : i ≤ k
+  pub second-done : {o₄ : List ℕ} {p₃ : ℕ} → Wrote o o₁ at p₁ (atom-word (m .atom) ∷ any-word ∷ register-word (m .register) ∷ []) → Wrote o₁ o₂ p₁ p₂ A
+      → Wrote o₂ o₃ p₂ p₃ (or-word ∷ []) → Wrote o₃ o₄ p₃ p (goto-end (m .atom) (m .register + 1)) → Wrote o o₄ at p (goto-second m A)
+  second-done u v w x = two-parts u (two-parts (two-parts v w) x)
+
+pub later-done : (b r : ℕ) {o o₁ o₂ : List ℕ} {at p₁ p : ℕ} → Wrote o o₁ at p₁ (atom-word b ∷ any-word ∷ register-word (r - 1) ∷ []) → Wrote o₁ o₂ p₁ p (goto-end b r)
+    → Wrote o o₂ at p (goto-stage b r (register-word (r - 1) ∷ []))
+later-done b r u v = two-parts u v
+
+-- The loop of `goto_fsm` from the i-th register on, which begins with the third.
+abbrev later-stages : Machine → ℕ → List ℕ
+later-stages m i = goto-stage-words (m .atom) (m .register + i) (m .count - i) (register-word (m .register + i - 1) ∷ [])
+
+pub record Staging (m : Machine) (o : List ℕ) (at : ℕ) (o′ : List ℕ) (p i : ℕ) : Type 0 where
+  pub later : 2 ≤ i
   pub long : length o′ ≡ length o
-  pub going : Going o at (goto-stage-words b r k (register-word (r - 1) ∷ [])) o′ p (goto-stage-words b (r + i) (k - i) (register-word (r + i - 1) ∷ []))
+  pub going : Going o at (later-stages m 2) o′ p (later-stages m i)
 
-pub staging-begins : (b : ℕ) (o : List ℕ) (at r k : ℕ) → Staging b o at r k o at 0
-staging-begins b o at r k = record { turn = omega arith; long = refl; going = rw (add-zero r, sub-zero k) (begin o at _) }
+pub staging-begins : (m : Machine) (o : List ℕ) (at : ℕ) → Staging m o at o at 2
+staging-begins m o at = record { later = omega arith; long = refl; going = begin o at (later-stages m 2) }
 
-module _ {b : ℕ} {o : List ℕ} {at r k : ℕ} {o′ : List ℕ} {p i : ℕ} (F : at + length (stages-from b r k) ≤ length o) (D : Staging b o at r k o′ p i) where
-  module _ (h : i < k) where
-    stage-ahead : stages-from b (r + i) (k - i) ≡ stage-words b (r + i) ++ stages-from b (r + (i + 1)) (k - (i + 1))
-    unfolding goto-stage-words
-    stage-ahead =
-        let e : k - i ≡ suc (k - (i + 1)) = omega (arith, h) in
-        let f : r + (i + 1) ≡ suc (r + i) = omega arith in
-        let f′ : suc (r + i) - 1 ≡ r + i = omega arith in
-        rw (e, f, f′) refl
+module _ {m : Machine} {o : List ℕ} {at : ℕ} {o′ : List ℕ} {p i : ℕ} (D : Staging m o at o′ p i) (h : i < m .count) where
+  abbrev stage-words : List ℕ
+  stage-words = goto-stage (m .atom) (m .register + i) (register-word (m .register + i - 1) ∷ [])
 
-    stage-onward : Going o at (stages-from b r k) o′ p (stage-words b (r + i) ++ stages-from b (r + (i + 1)) (k - (i + 1)))
-    stage-onward = rw stage-ahead at (D .going)
-
-    pub staging-room : p + 11 ≤ length o′
-    staging-room = first-room p (stage-words b (r + i)) (stages-from b (r + (i + 1)) (k - (i + 1))) refl (omega (arith, stage-onward .place, D .long, F))
-
-    pub staging-on : {o₁ : List ℕ} {p₁ : ℕ} → Wrote o′ o₁ p p₁ (stage-words b (r + i)) → Staging b o at r k o₁ p₁ (i + 1)
-    staging-on {o₁} {p₁} w = record { turn = omega (arith, h); long = next .long; going = next }
-      where
-        next : Going o at (stages-from b r k) o₁ p₁ (stages-from b (r + (i + 1)) (k - (i + 1)))
-        next = go (stage-words b (r + i)) _ stage-onward w
-
-  pub staging-ends : k ≤ i → Wrote o o′ at p (goto-stage-words b r k (register-word (r - 1) ∷ []))
+  stage-onward : Going o at (later-stages m 2) o′ p (stage-words ++ later-stages m (i + 1))
   unfolding goto-stage-words
-  staging-ends h = let e : k - i ≡ 0 = omega (arith, h) in done (rw e at (D .going))
+  stage-onward =
+      let e : m .count - i ≡ suc (m .count - (i + 1)) = omega (arith, h) in
+      let f : m .register + (i + 1) ≡ suc (m .register + i) = omega arith in
+      let g : suc (m .register + i) - 1 ≡ m .register + i = omega arith in
+      rw (f, g) (rw e at (D .going))
 
--- The loop of `run_later`: i registers in the middle are written.
-abbrev middle-words : ℕ → ℕ → List ℕ
-middle-words b r = register-word (r - 1) ∷ atom-word b ∷ any-word ∷ and-word ∷ store-word crl r ∷ []
+  stage-room : at + length (later-stages m 2) ≤ length o → p + 11 ≤ length o′
+  stage-room F = front-room p stage-words (later-stages m (i + 1)) refl (omega (arith, stage-onward .place, D .long, F))
 
-abbrev top-words : ℕ → ℕ → List ℕ
-top-words b r = register-word (r - 1) ∷ register-word r ∷ or-word ∷ atom-word b ∷ any-word ∷ and-word ∷ store-word crl r ∷ []
+  pub staging-on : {o₁ : List ℕ} {p₁ : ℕ} → Wrote o′ o₁ p p₁ stage-words → Staging m o at o₁ p₁ (i + 1)
+  staging-on {o₁} {p₁} w = record { later = omega (arith, D .later); long = next .long; going = next }
+    where
+      next : Going o at (later-stages m 2) o₁ p₁ (later-stages m (i + 1))
+      next = go stage-words (later-stages m (i + 1)) stage-onward w
 
-abbrev run-from : ℕ → ℕ → ℕ → List ℕ
-run-from b r k = run-stage-words b r k (register-word (r - 1) ∷ [])
+-- `goto_fsm`: the first register, the second, the others.
+module _ (m : Machine) (A : List ℕ) where
+  abbrev behind-first : List ℕ
+  behind-first = goto-stage-words (m .atom) (suc (m .register)) (m .count - 1) (available (m .register) A)
 
-pub record Running (b : ℕ) (o : List ℕ) (at r k : ℕ) (o′ : List ℕ) (p i : ℕ) : Type 0 where
-  pub turn : i ≤ k
-  pub long : length o′ ≡ length o
-  pub going : Going o at (run-stage-words b r k (register-word (r - 1) ∷ [])) o′ p (run-stage-words b (r + i) (k - i) (register-word (r + i - 1) ∷ []))
-
-pub running-begins : (b : ℕ) (o : List ℕ) (at r k : ℕ) → Running b o at r k o at 0
-running-begins b o at r k = record { turn = omega arith; long = refl; going = rw (add-zero r, sub-zero k) (begin o at _) }
-
-module _ {b : ℕ} {o : List ℕ} {at r k : ℕ} {o′ : List ℕ} {p i : ℕ} (F : at + length (run-from b r k) ≤ length o) (D : Running b o at r k o′ p i) where
-  module _ (h : i < k) where
-    run-ahead : run-from b (r + i) (k - i) ≡ middle-words b (r + i) ++ run-from b (r + (i + 1)) (k - (i + 1))
-    unfolding run-stage-words
-    run-ahead =
-        let e : k - i ≡ suc (k - (i + 1)) = omega (arith, h) in
-        let f : r + (i + 1) ≡ suc (r + i) = omega arith in
-        let f′ : suc (r + i) - 1 ≡ r + i = omega arith in
-        rw (e, f, f′) refl
-
-    run-onward : Going o at (run-from b r k) o′ p (middle-words b (r + i) ++ run-from b (r + (i + 1)) (k - (i + 1)))
-    run-onward = rw run-ahead at (D .going)
-
-    pub running-room : p + 5 ≤ length o′
-    running-room = first-room p (middle-words b (r + i)) (run-from b (r + (i + 1)) (k - (i + 1))) refl (omega (arith, run-onward .place, D .long, F))
-
-    pub running-on : {o₁ : List ℕ} {p₁ : ℕ} → Wrote o′ o₁ p p₁ (middle-words b (r + i)) → Running b o at r k o₁ p₁ (i + 1)
-    running-on {o₁} {p₁} w = record { turn = omega (arith, h); long = next .long; going = next }
-      where
-        next : Going o at (run-from b r k) o₁ p₁ (run-from b (r + (i + 1)) (k - (i + 1)))
-        next = go (middle-words b (r + i)) _ run-onward w
-
-  module _ (h : k ≤ i) where
-    run-top : Going o at (run-from b r k) o′ p (top-words b (r + i))
-    unfolding run-stage-words
-    run-top = let e : k - i ≡ 0 = omega (arith, h) in rw e at (D .going)
-
-    pub running-last : p + 7 ≤ length o′
-    running-last = omega (arith, run-top .place, D .long, F)
-
-    pub running-ends : {o₁ : List ℕ} {p₁ : ℕ} → Wrote o′ o₁ p p₁ (top-words b (r + i)) → Wrote o o₁ at p₁ (run-stage-words b r k (register-word (r - 1) ∷ []))
-    running-ends w = last run-top w
-
--- A machine's registers: the first, and all.
-module _ (q c : ℕ) (h : q + at-least-one c ≤ 65536) where
-  pub first-register-small : q < 65536
-  first-register-small = omega (arith, h, at-least-some c)
-
-  registers-small : q + c ≤ 65536
-  registers-small = omega (arith, h, at-least-itself c)
-
-  module _ (l : 2 ≤ c) where
-    pub second-register-small : q + 1 < 65536
-    second-register-small = omega (arith, registers-small, l)
-
-    pub stages-small : q + 2 + (c - 2) ≤ 65536
-    stages-small = omega (arith, registers-small, l)
-
-    pub run-small : q + 1 + (c - 2) < 65536
-    run-small = omega (arith, registers-small, l)
-
--- `goto_fsm`: the first register, the second, the stages after it.
-abbrev first-words : ℕ → ℕ → List ℕ → List ℕ
-first-words b q A = register-word q ∷ (A ++ (or-word ∷ atom-word b ∷ any-word ∷ not-word ∷ and-word ∷ store-word gto q ∷ []))
-
-abbrev second-words : ℕ → ℕ → List ℕ → List ℕ
-second-words b q A =
-    atom-word b ∷ any-word ∷ register-word q
-    ∷ (A ++ (or-word ∷ and-word ∷ atom-word b ∷ any-word ∷ not-word ∷ register-word (q + 1) ∷ and-word ∷ or-word ∷ store-word gto (q + 1) ∷ []))
-
-module _ (b c q : ℕ) (A : List ℕ) where
-  goto-all : goto-store-words b c q A ≡ first-words b q A ++ goto-stage-words b (suc q) (c - 1) (register-word q ∷ (A ++ (or-word ∷ [])))
+  pub first-room : (at : ℕ) {n : ℕ} → at + length (goto-store-words m A) ≤ n → at + (7 + length A) ≤ n
   unfolding goto-store-words
-  goto-all =
-      ap (λ (l : List ℕ). register-word q ∷ l)
-      (sym (append-assoc A (or-word ∷ atom-word b ∷ any-word ∷ not-word ∷ and-word ∷ store-word gto q ∷ []) (goto-stage-words b (suc q) (c - 1) (register-word q ∷ (A ++ (or-word ∷ []))))))
+  first-room at {n} h =
+      let room : at + length (goto-first m A) ≤ n = front-room at (goto-first m A) behind-first refl h in
+      omega (arith, simp length-append at room)
 
-  length-first : length (first-words b q A) ≡ 7 + length A
-  length-first = omega (arith, length-append A (or-word ∷ atom-word b ∷ any-word ∷ not-word ∷ and-word ∷ store-word gto q ∷ []))
+  pub only-first : {at p : ℕ} {o o₁ : List ℕ} → m .count < 2 → Wrote o o₁ at p (goto-first m A) → Wrote o o₁ at p (goto-store-words m A)
+  unfolding goto-store-words goto-stage-words
+  only-first h w = let e : m .count - 1 ≡ 0 = omega (arith, h) in same-words (rw e (sym (append-nil (goto-first m A)))) w
 
-  length-second : length (second-words b q A) ≡ 12 + length A
-  length-second =
-      omega (arith, length-append A (or-word ∷ and-word ∷ atom-word b ∷ any-word ∷ not-word ∷ register-word (q + 1) ∷ and-word ∷ or-word ∷ store-word gto (q + 1) ∷ []))
+  module _ {at p₁ : ℕ} {o o₁ : List ℕ} (h : 2 ≤ m .count) (u : Wrote o o₁ at p₁ (goto-first m A)) where
+    goto-parts : goto-store-words m A ≡ goto-first m A ++ (goto-second m A ++ later-stages m 2)
+    unfolding goto-store-words goto-stage-words
+    goto-parts =
+        let e : m .count - 1 ≡ suc (m .count - 2) = omega (arith, h) in
+        let f : m .register + 2 ≡ suc (suc (m .register)) = omega arith in
+        let g : suc (suc (m .register)) - 1 ≡ suc (m .register) = omega arith in
+        rw (e, f, g, add-one (m .register)) refl
 
-  pub goto-first-room : (at : ℕ) {n : ℕ} → at + length (goto-store-words b c q A) ≤ n → at + (7 + length A) ≤ n
-  goto-first-room at h = omega (arith, first-room at (first-words b q A) (goto-stage-words b (suc q) (c - 1) (register-word q ∷ (A ++ (or-word ∷ [])))) goto-all h, length-first)
+    pub second-room : at + length (goto-store-words m A) ≤ length o → p₁ + (12 + length A) ≤ length o₁
+    second-room z =
+        let rest : p₁ + length (goto-second m A ++ later-stages m 2) ≤ length o₁ = behind-room (goto-first m A) (goto-second m A ++ later-stages m 2) goto-parts z u in
+        let room : p₁ + length (goto-second m A) ≤ length o₁ = front-room p₁ (goto-second m A) (later-stages m 2) refl rest in
+        omega (arith, simp length-append at room)
 
-  pub goto-one-done : {at p : ℕ} {o o₁ : List ℕ} → c < 2 → Wrote o o₁ at p (first-words b q A) → Wrote o o₁ at p (goto-store-words b c q A)
-  unfolding goto-stage-words
-  goto-one-done h w = let e : c - 1 ≡ 0 = omega (arith, h) in same-words (sym (goto-all ∙ rw e (append-nil (first-words b q A)))) w
+    module _ {p₂ p i : ℕ} {o₂ o₃ : List ℕ} (v : Wrote o₁ o₂ p₁ p₂ (goto-second m A)) (D : Staging m o₂ p₂ o₃ p i) where
+      pub later-room : at + length (goto-store-words m A) ≤ length o → i < m .count → p + 11 ≤ length o₃
+      later-room z l = stage-room D l (third-room (goto-first m A) (goto-second m A) (later-stages m 2) goto-parts z u v)
 
-  module _ (h : 2 ≤ c) where
-    goto-more : goto-stage-words b (suc q) (c - 1) (register-word q ∷ (A ++ (or-word ∷ []))) ≡ second-words b q A ++ stages-from b (q + 2) (c - 2)
-    unfolding goto-stage-words
-    goto-more =
-        let e : c - 1 ≡ suc (c - 2) = omega (arith, h) in
-        let f : q + 2 - 1 ≡ suc q = omega arith in
-        let f′ : q + 2 ≡ suc (suc q) = omega arith in
-        let g : q + 1 ≡ suc q = omega arith in
-        let tail = goto-stage-words b (suc (suc q)) (c - 2) (register-word (suc q) ∷ []) in
-        let mid = and-word ∷ atom-word b ∷ any-word ∷ not-word ∷ register-word (suc q) ∷ and-word ∷ or-word ∷ store-word gto (suc q) ∷ [] in
-        rw (e, f, f′, g)
-        (ap (λ (l : List ℕ). atom-word b ∷ any-word ∷ register-word q ∷ l) (append-assoc A (or-word ∷ []) (mid ++ tail) ∙ sym (append-assoc A (or-word ∷ mid) tail)))
+      pub goto-done : m .count ≤ i → Wrote o o₃ at p (goto-store-words m A)
+      unfolding goto-stage-words
+      goto-done l = let e : m .count - i ≡ 0 = omega (arith, l) in three-done goto-parts u v (done (rw e at (D .going)))
 
-    goto-parts : goto-store-words b c q A ≡ first-words b q A ++ (second-words b q A ++ stages-from b (q + 2) (c - 2))
-    goto-parts = goto-all ∙ ap (λ (l : List ℕ). first-words b q A ++ l) goto-more
+-- `nonconsec_fsm`: the goto's stores, the text of the match, the store of the extension.
+module _ (m : Machine) (A : List ℕ) {stages : ℕ} (e : stages ≡ at-least-one (m .count)) where
+  abbrev extension : List ℕ
+  extension = store-word ncx (m .register + stages) ∷ []
 
-    pub goto-second-room : {at a : ℕ} {o o₁ : List ℕ} → at + length (goto-store-words b c q A) ≤ length o → Wrote o o₁ at a (first-words b q A) → a + (12 + length A) ≤ length o₁
-    goto-second-room {at} {a} {o} {o₁} z u =
-        omega (arith, first-room a (second-words b q A) (stages-from b (q + 2) (c - 2)) refl (second-room (first-words b q A) (second-words b q A ++ stages-from b (q + 2) (c - 2)) goto-parts z u), length-second)
-
-    pub goto-stages-room : {at a d : ℕ} {o o₁ o₂ : List ℕ} → at + length (goto-store-words b c q A) ≤ length o → Wrote o o₁ at a (first-words b q A) → Wrote o₁ o₂ a d (second-words b q A)
-        → d + length (goto-stage-words b (q + 2) (c - 2) (register-word (q + 2 - 1) ∷ [])) ≤ length o₂
-    goto-stages-room z u v = third-room (first-words b q A) (second-words b q A) (stages-from b (q + 2) (c - 2)) goto-parts z u v
-
-    pub goto-done : {at a d p : ℕ} {o o₁ o₂ o₃ : List ℕ} → Wrote o o₁ at a (first-words b q A) → Wrote o₁ o₂ a d (second-words b q A)
-        → Wrote o₂ o₃ d p (goto-stage-words b (q + 2) (c - 2) (register-word (q + 2 - 1) ∷ [])) → Wrote o o₃ at p (goto-store-words b c q A)
-    goto-done u v w = three-done goto-parts u v w
-
--- `nonconsec_fsm`.
-module _ (b c q : ℕ) (A : List ℕ) where
-  abbrev extend-words : List ℕ
-  extend-words = term-text q (Nonconsec b c) A ++ (store-word ncx (q + at-least-one c) ∷ [])
-
-  nonconsec-parts : nonconsec-store-words b c q A ≡ goto-store-words b c q A ++ extend-words
+  nonconsec-parts : nonconsec-store-words m A ≡ goto-store-words m A ++ (match-text m A ++ extension)
   unfolding nonconsec-store-words
-  nonconsec-parts = refl
+  nonconsec-parts = rw e refl
 
-  pub nonconsec-goto-room : (at : ℕ) {n : ℕ} → at + length (nonconsec-store-words b c q A) ≤ n → at + length (goto-store-words b c q A) ≤ n
-  nonconsec-goto-room at h = first-room at (goto-store-words b c q A) extend-words nonconsec-parts h
+  pub nonconsec-goto-room : (at : ℕ) {n : ℕ} → at + length (nonconsec-store-words m A) ≤ n → at + length (goto-store-words m A) ≤ n
+  nonconsec-goto-room at h = front-room at (goto-store-words m A) (match-text m A ++ extension) nonconsec-parts h
 
-  pub nonconsec-extension-room : {at a : ℕ} {o o₁ : List ℕ} → at + length (nonconsec-store-words b c q A) ≤ length o → Wrote o o₁ at a (goto-store-words b c q A)
-      → a + (1 + length (term-text q (Nonconsec b c) A)) ≤ length o₁
-  nonconsec-extension-room z u =
-      omega (arith, second-room (goto-store-words b c q A) extend-words nonconsec-parts z u, length-append (term-text q (Nonconsec b c) A) (store-word ncx (q + at-least-one c) ∷ []))
+  module _ {at p₁ : ℕ} {o o₁ : List ℕ} (u : Wrote o o₁ at p₁ (goto-store-words m A)) where
+    pub nonconsec-match-room : at + length (nonconsec-store-words m A) ≤ length o → p₁ + length (match-text m A) ≤ length o₁
+    nonconsec-match-room h =
+        front-room p₁ (match-text m A) extension refl (behind-room (goto-store-words m A) (match-text m A ++ extension) nonconsec-parts h u)
 
-  pub nonconsec-done : {at a p : ℕ} {o o₁ o₂ : List ℕ} → Wrote o o₁ at a (goto-store-words b c q A) → Wrote o₁ o₂ a p (term-text q (Nonconsec b c) A ++ (store-word ncx (q + at-least-one c) ∷ []))
-      → Wrote o o₂ at p (nonconsec-store-words b c q A)
-  nonconsec-done u v = both-done nonconsec-parts u v
+    module _ {p₂ : ℕ} {o₂ : List ℕ} (v : Wrote o₁ o₂ p₁ p₂ (match-text m A)) where
+      pub nonconsec-extension-room : at + length (nonconsec-store-words m A) ≤ length o → p₂ < length o₂
+      nonconsec-extension-room h = omega (arith, third-room (goto-store-words m A) (match-text m A) extension nonconsec-parts h u v)
 
-pub nonconsec-registers : (b c q : ℕ) → q + at-least-one c + 1 ≤ 65536 → q + term-registers (Nonconsec b c) ≤ 65536
+      pub nonconsec-done : {p : ℕ} {o₃ : List ℕ} → Wrote o₂ o₃ p₂ p extension → Wrote o o₃ at p (nonconsec-store-words m A)
+      nonconsec-done w = three-done nonconsec-parts u v w
+
+pub match-fits : {W : List ℕ} {a : Kept} {k r : ℕ} {m : Machine} → Started W a k r m (at-least-one (m .count)) → TermFits (m .register) (Nonconsec (m .atom) (m .count))
 unfolding term-registers
-nonconsec-registers b c q h = omega (arith, h)
+match-fits S = record { high = omega (arith, S .register); atom = S .atom }
 
-pub extension-done : (q c : ℕ) {o o₁ o₂ T : List ℕ} {at a p m : ℕ} → m ≡ at-least-one c → Wrote o o₁ at a T → Wrote o₁ o₂ a p (store-word ncx (q + m) ∷ []) → Wrote o o₂ at p (T ++ (store-word ncx (q + at-least-one c) ∷ []))
-extension-done q c e u v = both-done refl u (rw (← e) v)
+-- The loop of `consec_run_fsm` from the i-th register on.
+abbrev runs-from : Machine → ℕ → List ℕ
+runs-from m i = run-stage-words (m .atom) (m .register + i) (m .count - 1 - i)
 
--- `consec_run_fsm`.
-module _ (b c q : ℕ) (A : List ℕ) where
-  run-one : c < 2 → run-stage-words b q (c - 1) A ≡ A ++ (register-word q ∷ or-word ∷ atom-word b ∷ any-word ∷ and-word ∷ store-word crl q ∷ [])
-  unfolding run-stage-words
-  run-one h = let e : c - 1 ≡ 0 = omega (arith, h) in rw e refl
+pub record Running (m : Machine) (o : List ℕ) (at : ℕ) (o′ : List ℕ) (p i : ℕ) : Type 0 where
+  pub turn : i ≤ m .count - 1
+  pub long : length o′ ≡ length o
+  pub going : Going o at (runs-from m 0) o′ p (runs-from m i)
 
-  pub run-only-room : (at : ℕ) {n : ℕ} → c < 2 → at + length (run-stage-words b q (c - 1) A) ≤ n → at + (6 + length A) ≤ n
-  run-only-room at {n} h z =
-      let z′ : at + length (A ++ (register-word q ∷ or-word ∷ atom-word b ∷ any-word ∷ and-word ∷ store-word crl q ∷ [])) ≤ n = same-room at (run-one h) z in
-      omega (arith, z′, length-append A (register-word q ∷ or-word ∷ atom-word b ∷ any-word ∷ and-word ∷ store-word crl q ∷ []))
+pub running-begins : (m : Machine) (o : List ℕ) (at : ℕ) → Running m o at o at 0
+running-begins m o at = record { turn = omega arith; long = refl; going = begin o at (runs-from m 0) }
 
-  pub run-only-done : {at p : ℕ} {o o₁ : List ℕ} → c < 2 → Wrote o o₁ at p (A ++ (register-word q ∷ or-word ∷ atom-word b ∷ any-word ∷ and-word ∷ store-word crl q ∷ [])) → Wrote o o₁ at p (run-stage-words b q (c - 1) A)
-  run-only-done h w = same-words (sym (run-one h)) w
-
-  module _ (h : 2 ≤ c) where
-    run-parts : run-stage-words b q (c - 1) A ≡ (A ++ (atom-word b ∷ any-word ∷ and-word ∷ store-word crl q ∷ [])) ++ run-from b (q + 1) (c - 2)
+module _ {m : Machine} {o : List ℕ} {at : ℕ} {o′ : List ℕ} {p i top : ℕ} (D : Running m o at o′ p i) (t : top ≡ m .count - 1) where
+  module _ (h : i < top) where
+    run-onward : Going o at (runs-from m 0) o′ p (run-stage (m .atom) (m .register + i) ++ runs-from m (i + 1))
     unfolding run-stage-words
-    run-parts =
-        let e : c - 1 ≡ suc (c - 2) = omega (arith, h) in
-        let f : q + 1 - 1 ≡ q = omega arith in
-        rw (e, f, add-one q) (sym (append-assoc A (atom-word b ∷ any-word ∷ and-word ∷ store-word crl q ∷ []) (run-stage-words b (suc q) (c - 2) (register-word q ∷ []))))
+    run-onward =
+        let e : m .count - 1 - i ≡ suc (m .count - 1 - (i + 1)) = omega (arith, h, t) in
+        let f : m .register + (i + 1) ≡ suc (m .register + i) = omega arith in
+        rw f (rw e at (D .going))
 
-    pub run-first-room : (at : ℕ) {n : ℕ} → at + length (run-stage-words b q (c - 1) A) ≤ n → at + (4 + length A) ≤ n
-    run-first-room at z =
-        omega (arith, first-room at (A ++ (atom-word b ∷ any-word ∷ and-word ∷ store-word crl q ∷ [])) (run-from b (q + 1) (c - 2)) run-parts z, length-append A (atom-word b ∷ any-word ∷ and-word ∷ store-word crl q ∷ []))
+    pub running-on : {o₁ : List ℕ} {p₁ : ℕ} → Wrote o′ o₁ p p₁ (run-stage (m .atom) (m .register + i)) → Running m o at o₁ p₁ (i + 1)
+    running-on {o₁} {p₁} w = record { turn = omega (arith, h, t); long = next .long; going = next }
+      where
+        next : Going o at (runs-from m 0) o₁ p₁ (runs-from m (i + 1))
+        next = go (run-stage (m .atom) (m .register + i)) (runs-from m (i + 1)) run-onward w
 
-    pub run-later-room : {at a : ℕ} {o o₁ : List ℕ} → at + length (run-stage-words b q (c - 1) A) ≤ length o → Wrote o o₁ at a (A ++ (atom-word b ∷ any-word ∷ and-word ∷ store-word crl q ∷ []))
-        → a + length (run-stage-words b (q + 1) (c - 2) (register-word (q + 1 - 1) ∷ [])) ≤ length o₁
-    run-later-room z u = second-room (A ++ (atom-word b ∷ any-word ∷ and-word ∷ store-word crl q ∷ [])) (run-from b (q + 1) (c - 2)) run-parts z u
+  top-onward : top ≤ i → Going o at (runs-from m 0) o′ p (run-top (m .atom) (m .register + top))
+  unfolding run-stage-words
+  top-onward h =
+      let e : m .count - 1 - i ≡ 0 = omega (arith, h, t) in
+      let f : top ≡ i = omega (arith, h, t, D .turn) in
+      rw f (rw e at (D .going))
 
-    pub run-done : {at a p : ℕ} {o o₁ o₂ : List ℕ} → Wrote o o₁ at a (A ++ (atom-word b ∷ any-word ∷ and-word ∷ store-word crl q ∷ []))
-        → Wrote o₁ o₂ a p (run-stage-words b (q + 1) (c - 2) (register-word (q + 1 - 1) ∷ [])) → Wrote o o₂ at p (run-stage-words b q (c - 1) A)
-    run-done u v = both-done run-parts u v
+-- `consec_run_fsm`: the activation, the registers, the top one.
+module _ (m : Machine) (A : List ℕ) where
+  run-parts : run-store-words m A ≡ A ++ runs-from m 0
+  unfolding run-store-words
+  run-parts = rw (add-zero (m .register), sub-zero (m .count - 1)) refl
 
--- A match on the term: y is the variant.
+  pub run-room : (at : ℕ) {n : ℕ} → at + length (run-store-words m A) ≤ n → at + length A ≤ n
+  run-room at h = front-room at A (runs-from m 0) run-parts h
+
+  module _ {at p₁ p i top : ℕ} {o o₁ o₂ : List ℕ} (u : Wrote o o₁ at p₁ A) (D : Running m o₁ p₁ o₂ p i) (t : top ≡ m .count - 1) where
+    pub running-room : at + length (run-store-words m A) ≤ length o → i < top → p + 5 ≤ length o₂
+    running-room z h =
+        let rest : p₁ + length (runs-from m 0) ≤ length o₁ = behind-room A (runs-from m 0) run-parts z u in
+        front-room p (run-stage (m .atom) (m .register + i)) (runs-from m (i + 1)) refl (omega (arith, run-onward D t h .place, D .long, rest))
+
+    pub top-room : at + length (run-store-words m A) ≤ length o → top ≤ i → p + 6 ≤ length o₂
+    top-room z h =
+        let rest : p₁ + length (runs-from m 0) ≤ length o₁ = behind-room A (runs-from m 0) run-parts z u in
+        omega (arith, top-onward D t h .place, D .long, rest)
+
+    pub run-done : {o₃ : List ℕ} {p₂ : ℕ} → top ≤ i → Wrote o₂ o₃ p p₂ (run-top (m .atom) (m .register + top)) → Wrote o o₃ at p₂ (run-store-words m A)
+    run-done h w = both-done run-parts u (last (top-onward D t h) w)
+
+-- A match on the term: y is the variant, c the count of its machine.
 module _ (q : ℕ) (A : List ℕ) (at : ℕ) {x y : SeqTerm} (e : x ≡ y) where
   pub stores-in : {o o′ : List ℕ} {p : ℕ} → Wrote o o′ at p (term-store-words q y A) → Wrote o o′ at p (term-store-words q x A)
   stores-in w = rw e w
@@ -261,12 +209,9 @@ module _ (q : ℕ) (A : List ℕ) (at : ℕ) {x y : SeqTerm} (e : x ≡ y) where
   pub stores-room : {ws : List ℕ} {n : ℕ} → term-store-words q y A ≡ ws → at + length (term-store-words q x A) ≤ n → at + length ws ≤ n
   stores-room f h = same-room at (ap (λ (z : SeqTerm). term-store-words q z A) e ∙ f) h
 
-module _ {x y : SeqTerm} (e : x ≡ y) where
-  pub variant-atom : {a : ℕ} → term-atom y ≡ a → term-atom x < 65536 → a < 65536
-  variant-atom f h = rw (← f, ← e) h
+module _ {x y : SeqTerm} (e : x ≡ y) {W : List ℕ} {a : Kept} {k r b c q : ℕ} (R : Ready W a k r) (f : term-atom y ≡ b) (T : TermFits q x) where
+  pub starts : term-registers y ≡ at-least-one c → Started W a k r (machine b c q) (c - 1)
+  starts g = record { ready = R; atom = rw (← f, ← e) (T .atom); register = omega (arith, T .high, ap term-registers e, g, at-least-some c, at-least-itself c) }
 
-  pub variant-registers : (q : ℕ) {m : ℕ} → term-registers y ≡ m → q + term-registers x ≤ 65536 → q + m ≤ 65536
-  variant-registers q f h = rw (← f, ← e) h
-
-  pub nonconsec-variant-registers : (q m : ℕ) → term-registers y ≡ m + 1 → q + term-registers x ≤ 65536 → q + m + 1 ≤ 65536
-  nonconsec-variant-registers q m f h = omega (arith, h, ap term-registers e, f)
+  pub starts-extended : term-registers y ≡ at-least-one c + 1 → Started W a k r (machine b c q) (at-least-one c)
+  starts-extended g = record { ready = R; atom = rw (← f, ← e) (T .atom); register = omega (arith, T .high, ap term-registers e, g) }

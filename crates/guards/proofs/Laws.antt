@@ -23,11 +23,12 @@ use Rattle.meaning.specs.Refusals.{has-guard, guarded}
 use Rattle.meaning.proofs.Emitted.{some-words}
 use Rattle.expand.specs.declared.Parts.{Parts}
 use Rattle.expand.specs.declared.Block.{Block}
-use Rattle.expand.specs.ByNumber.{alternatives-of, copies-of, nth, is-copies, copy-number, Numbered, NumberedCopies}
-use Rattle.expand.specs.Outline.{guard-flag, count-in, bare-in, flag-in, delay-parts, copies-block, Known}
-use Rattle.expand.proofs.Outlines.{flag-known}
+use Rattle.expand.specs.ByNumber.{alternatives-of, copies-of, nth, is-copies, copy-number, delay-parts, copies-block, NumberedCopies, OutlinedNumber, OutlinedCopies}
+use Rattle.outline.specs.Outline.{guard-flag, count-in, bare-in, flag-in}
+use Rattle.outline.proofs.ByWords.{well-formed}
+use Rattle.outline.proofs.Readers.{flag-known}
 use Rattle.expand.proofs.Index.{nth-copies, copies-index}
-use Rattle.expand.proofs.ByKind.{some-alternatives, well-formed, single-alternative}
+use Rattle.expand.proofs.ByKind.{some-alternatives, single-alternative}
 use Rattle.expand.proofs.Numbers.{Copied, nth-of-delay, nth-of-throughout, nth-of-block, copy-counted, same-alternatives}
 use Rattle.guards.specs.GuardText.{guard-expression, guard-text, closed-guard, joining}
 
@@ -46,7 +47,7 @@ join-both : {from middle end : ℕ} → (from ≡ middle → ⊥) → (middle �
 unfolding joining
 join-both e f = pick-false _ _ (ne-eqb _ _ e) ∙ pick-false _ _ (ne-eqb _ _ f)
 
--- .. as the code puts it.
+-- The words that join two guards, as the code puts them.
 pub none-joined : (o : List ℕ) {from middle : ℕ} (end : ℕ) → from ≡ middle → Wrote o o end end (joining from middle end)
 none-joined o end e = same-words (sym (join-none end e)) (nothing-written o end)
 
@@ -132,29 +133,29 @@ no-guard (y ∷ ys) (suc i) e = no-guard ys i (by (has-guard (y .guard)) e)
     by true p = absurd (false-is-not-true (sym p))
     by false p = p
 
-pub unguarded-text : {t q : List ℕ} {n i f : ℕ} (o : List ℕ) (at : ℕ) → Numbered t n i → Known t q n → f ≡ flag-in q n → f ≡ 0
+pub unguarded-text : {t q : List ℕ} {n i f : ℕ} (o : List ℕ) (at : ℕ) → OutlinedNumber t q n i → f ≡ flag-in q n → f ≡ 0
     → Wrote o o at at (node-guard t n i)
 unfolding guard-flag alternatives-of pick
-unguarded-text {t} {q} {n} {i} o at N K e z =
-    same-words (sym (no-guard (alternatives-of t n) i (by (guarded (expand (tree-at t n))) (sym (flag-known (N .node) K) ∙ sym e ∙ z)))) (nothing-written o at)
+unguarded-text {t} {q} {n} {i} o at N e z =
+    same-words (sym (no-guard (alternatives-of t n) i (by (guarded (expand (tree-at t n))) (sym (flag-known (N .numbered .node) (N .known)) ∙ sym e ∙ z)))) (nothing-written o at)
   where
     by : (g : Bool) → _≡_ {A = ℕ} (pick g 1 0) 0 → g ≡ false
     by true p = absurd (omega arith)
     by false p = refl
 
 -- [*1], passed at one stroke
-module _ {t q : List ℕ} {n i m : ℕ} (o : List ℕ) (at : ℕ) (N : Numbered t n i) (K : Known t q n) (e : m ≡ bare-in q n) where
+module _ {t q : List ℕ} {n i m : ℕ} (o : List ℕ) (at : ℕ) (N : OutlinedNumber t q n i) (e : m ≡ bare-in q n) where
   pub bare-guard-room : at + length (node-guard t n i) ≤ length o → at + length (node-guard t m i) ≤ length o
-  bare-guard-room room = rw (same-alternatives N K e) room
+  bare-guard-room room = rw (same-alternatives N e) room
 
   pub bare-guarded : {o₁ : List ℕ} {z : ℕ} → Wrote o o₁ at z (node-guard t m i) → Wrote o o₁ at z (node-guard t n i)
-  bare-guarded x = rw (same-alternatives N K e) at x
+  bare-guarded x = rw (same-alternatives N e) at x
 
-module _ {t q : List ℕ} {n i : ℕ} {v : Node} (o : List ℕ) (at : ℕ) (N : Numbered t n i) (K : Known t q n) (room : at + length (node-guard t n i) ≤ length o) (w : v ≡ node-at t n) where
+module _ {t q : List ℕ} {n i : ℕ} {v : Node} (o : List ℕ) (at : ℕ) (N : OutlinedNumber t q n i) (room : at + length (node-guard t n i) ≤ length o) (w : v ≡ node-at t n) where
   abbrev own : Guard
   own = nth (alternatives-of t n) i .guard
 
-  -- delay
+  -- The guard of a delay's alternative joins those of its two parts.
   module _ {s : Parts} (k : v .kind ≡ 2) (c : s ≡ delay-parts q v i) where
     abbrev left : Guard
     left = nth (alternatives-of t (v .p)) (s .left) .guard
@@ -163,7 +164,7 @@ module _ {t q : List ℕ} {n i : ℕ} {v : Node} (o : List ℕ) (at : ℕ) (N : 
     right = nth (alternatives-of t (v .q)) (s .right) .guard
 
     delay-guard : own ≡ and-opt left right
-    delay-guard = ap (λ (y : SeqAlt). y .guard) (nth-of-delay N K w k c)
+    delay-guard = ap (λ (y : SeqAlt). y .guard) (nth-of-delay N w k c)
 
     pub left-room : at + length (node-guard t (v .p) (s .left)) ≤ length o
     unfolding guard-text
@@ -184,7 +185,7 @@ module _ {t q : List ℕ} {n i : ℕ} {v : Node} (o : List ℕ) (at : ℕ) (N : 
         unfolding guard-text
         delay-guarded z = guards-joined own left right delay-guard o at room x y z
 
-  -- throughout
+  -- The guard of a throughout's alternative joins that of its operand's and the condition.
   module _ (k : v .kind ≡ 6) where
     abbrev under : Guard
     under = nth (alternatives-of t (v .q)) i .guard
@@ -193,10 +194,10 @@ module _ {t q : List ℕ} {n i : ℕ} {v : Node} (o : List ℕ) (at : ℕ) (N : 
     condition = guard (any (a· (v .p)))
 
     throughout-guard : own ≡ and-opt under condition
-    throughout-guard = ap (λ (y : SeqAlt). y .guard) (nth-of-throughout N K w k)
+    throughout-guard = ap (λ (y : SeqAlt). y .guard) (nth-of-throughout N w k)
 
     pub condition-small : v .p < 65536
-    condition-small = well-formed (N .node) w .condition-small k
+    condition-small = well-formed (N .numbered .node .formed) (N .numbered .node .inside) w .condition-small k
 
     pub under-room : at + length (node-guard t (v .q) i) ≤ length o
     unfolding guard-text
@@ -217,11 +218,11 @@ module _ {t q : List ℕ} {n i : ℕ} {v : Node} (o : List ℕ) (at : ℕ) (N : 
         unfolding guard-text
         throughout-guarded z = guards-joined own under condition throughout-guard o at room x y z
 
-  -- copies
+  -- The guard of a repetition's alternative is that of its block of copies.
   module _ (R : Copied v i) {b : Block} (g : b ≡ copies-block q v i) where
     block-guard : node-guard t n i ≡ copies-guard t (v .p) (b .later) (b .index)
     unfolding guard-text
-    block-guard = ap (λ (y : SeqAlt). guard-expression (y .guard)) (nth-of-block N K w R g)
+    block-guard = ap (λ (y : SeqAlt). guard-expression (y .guard)) (nth-of-block N w R g)
 
     pub block-room : at + length (copies-guard t (v .p) (b .later) (b .index)) ≤ length o
     block-room = rw block-guard at room
@@ -230,16 +231,16 @@ module _ {t q : List ℕ} {n i : ℕ} {v : Node} (o : List ℕ) (at : ℕ) (N : 
         → Wrote o o₁ at z (node-guard t n i)
     block-guarded x = same-words (sym block-guard) x
 
-  -- one term
+  -- An alternative that is one term has no guard to put.
   pub single-unguarded : {b : Bool} → (v .kind ≡ 2 → ⊥) → (v .kind ≡ 6 → ⊥) → b ≡ is-copies v i → b ≡ false
       → Wrote o o at at (node-guard t n i)
   unfolding guard-text
   single-unguarded d g c x =
-      same-words (ap (λ (y : SeqAlt). guard-expression (y .guard)) (sym (single-alternative (N .node) w d g i (N .index) c x))) (nothing-written o at)
+      same-words (ap (λ (y : SeqAlt). guard-expression (y .guard)) (sym (single-alternative (N .numbered .node) w d g i (N .numbered .index) c x))) (nothing-written o at)
 
 -- ---- several copies, each joined to those before it
 
--- The guard of one of them.
+-- The guard of one of several copies.
 abbrev copy-guard : List ℕ → ℕ → ℕ → ℕ → Guard
 copy-guard t n i later = nth (alternatives-of t n) (copy-number (length (alternatives-of t n)) i later) .guard
 
@@ -248,14 +249,14 @@ pub joined-on : List ℕ → ℕ → ℕ → Guard → ℕ → Guard
 joined-on t n i g zero = g
 joined-on t n i g (suc later) = joined-on t n i (and-opt g (copy-guard t n i later)) later
 
--- The last of them is joined to those of the number that is left without it.
+-- The guard of the last copy is joined to those of the number that is left without it.
 last-joined : (t : List ℕ) (n i : ℕ) (g : Guard) (later : ℕ)
     → let a = length (alternatives-of t n) in joined-on t n i g (suc later) ≡ and-opt (joined-on t n (i / a) g later) (nth (alternatives-of t n) (i % a) .guard)
 unfolding joined-on copy-number
 last-joined t n i g zero = refl
 last-joined t n i g (suc later) = last-joined t n i (and-opt g (copy-guard t n i (suc later))) later
 
--- All of them are the guard of the copies' alternative.
+-- The guards of all copies, joined, are the guard of the copies' alternative.
 all-joined : (t : List ℕ) (n k i : ℕ) → 0 < length (alternatives-of t n) → i < length (copies-of (alternatives-of t n) k)
     → nth (copies-of (alternatives-of t n) k) i .guard ≡ joined-on t n i unguarded (suc k)
 unfolding joined-on copies-of copy-number
@@ -292,7 +293,7 @@ joining-begins {t} {n} {k} {i} o at C = record {
 }
 
 module _ {t q : List ℕ} {n k i : ℕ} {o : List ℕ} {at : ℕ} {o′ : List ℕ} {middle left d : ℕ}
-    (C : NumberedCopies t n k i) (K : Known t q n) (J : Joining t n k i o at o′ middle left) (m : 0 < left)
+    (C : OutlinedCopies t q n k i) (J : Joining t n k i o at o′ middle left) (m : 0 < left)
     (e : d ≡ copy-number (count-in q n) i (left - 1)) where
   abbrev next-copy : Guard
   next-copy = nth (alternatives-of t n) d .guard
@@ -302,7 +303,7 @@ module _ {t q : List ℕ} {n k i : ℕ} {o : List ℕ} {at : ℕ} {o′ : List �
   unfolding joined-on
   one-joined =
       let s : left ≡ suc (left - 1) = omega arith in
-      J .rest ∙ ap (joined-on t n i (J .so-far)) s ∙ rw (copy-counted C K (left - 1) e) refl
+      J .rest ∙ ap (joined-on t n i (J .so-far)) s ∙ rw (copy-counted C (left - 1) e) refl
 
   module _ (room : at + length (copies-guard t n k i) ≤ length o) where
     all-room : at + length (guard-expression (and-opt (J .so-far) next-copy)) ≤ length o
@@ -377,3 +378,8 @@ module _ (alts : List SeqAlt) (i : ℕ) (o : List ℕ) (at : ℕ) (room : at + l
 pub condition-put : {o o₁ o₂ : List ℕ} {at middle end : ℕ} (c : ℕ) → Wrote o o₁ at middle (word 1 c ∷ [])
     → Wrote o₁ o₂ middle end (word 5 0 ∷ []) → Wrote o o₂ at end (word 1 c ∷ word 5 0 ∷ [])
 condition-put {o} {at = at} c x y = last (go (word 1 c ∷ []) (word 5 0 ∷ []) (begin o at _) x) y
+
+-- Where the outline tells of no guard, nothing is to be closed.
+pub nothing-closed : {t q : List ℕ} {n i f : ℕ} (o : List ℕ) (at : ℕ) → OutlinedNumber t q n i → at + length (closed-guard (alternatives-of t n) i) ≤ length o
+    → f ≡ flag-in q n → f ≡ 0 → Wrote o o at at (closed-guard (alternatives-of t n) i)
+nothing-closed {t} {q} {n} {i} o at N room e z = none-to-close (alternatives-of t n) i o at room (unguarded-text o at N e z) refl

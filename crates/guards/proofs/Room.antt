@@ -1,4 +1,4 @@
--- A guard closed by its `and` has three words for each of its atoms, so that it finds room beside the steps: 01 gives 16 words
+-- A guard closed by its `and` has three words for each of its atoms, so that it finds room beside the steps: the specification gives 16 words
 -- for each entry, and guard atoms are entries.
 use mathlib.Core.Path.{_≡_}
 use mathlib.Core.List.{List, [], _∷_, _++_}
@@ -43,7 +43,7 @@ pub length-of-guard : (s : Seq) (i : ℕ) → length (closed-guard (expand s) i)
 unfolding closed-guard
 length-of-guard s i = each-nth tripled (expand s) i (each-expanded tripled s)
 
--- So the guard lies in the second half of 16 words an entry.
+-- The guard lies in the second half of 16 words an entry.
 pub guard-within-room : (t : List ℕ) (n i : ℕ) (N : Numbered t n i)
     → length (closed-guard (alternatives-of t n) i) ≤ 3 * N .node .room
 unfolding alternatives-of

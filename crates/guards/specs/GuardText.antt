@@ -1,4 +1,4 @@
--- A guard as words (01, "Alternatives": "Guards met in a delay or repetition are ANDed, left first"): an AND tree, postfix.
+-- A guard as words (SPECIFICATION, "Alternatives": "their guards are ANDed, the left one first"): an AND tree, postfix.
 -- With a closing `and`, guarding an expression is appending these words to it.
 -- Example: the guard of `c throughout (d throughout a)` is `a3 any a2 any and`, closed `a3 any a2 any and and`.
 use mathlib.Core.List.{List, [], _∷_}
@@ -15,7 +15,7 @@ abbrev pub guard-expression : Guard → List ℕ
 guard-expression unguarded = []
 guard-expression (guard x) = expression-words x
 
--- .. of the i-th alternative's guard, and with the `and` of the expression that it guards.
+-- The words of the i-th alternative's guard, and with the `and` of the expression that it guards.
 unfoldable pub guard-text : List SeqAlt → ℕ → List ℕ
 guard-text alts i = guard-expression (nth alts i .guard)
 

@@ -7,16 +7,15 @@ ghost use Prim.Native.Nat.{_+_, _≤_, _<_};
 ghost use lib.ListN.{length};
 ghost use Rattle.words.specs.Written.{Wrote};
 ghost use Rattle.meaning.specs.Listing.{word};
-ghost use Rattle.expand.specs.Outline.{Known};
-ghost use Rattle.expand.specs.ByNumber.{alternatives-of, copies-of, Numbered, NumberedCopies};
+ghost use Rattle.expand.specs.ByNumber.{alternatives-of, copies-of, OutlinedNumber, OutlinedCopies};
 ghost use Rattle.guards.specs.GuardText.{guard-text, closed-guard, joining};
 
-// Puts a word: operation times 16,777,216 plus argument.
+// Puts the word of an operation with its argument.
 fn put_operation(out: &mut [u32], at: usize, operation: u32, argument: u32) -> usize
     requires { ⌜ (at < length (now out)) × (operation < 16) × (argument < 65536) ⌝ }
     ensures { λ next. ⌜ Wrote (now (out .entry)) (now (out .exit)) at next (word operation argument ∷ []) ⌝ }
 {
-    words::put(out, at, operation * 16777216 + argument)
+    words::put(out, at, operation * meaning::operation::UNIT + argument)
 }
 
 // Puts a condition reduced by OR.
@@ -24,8 +23,8 @@ fn put_condition(out: &mut [u32], at: usize, atom: u32) -> usize
     requires { ⌜ (at + 2 ≤ length (now out)) × (atom < 65536) ⌝ }
     ensures { λ next. ⌜ Wrote (now (out .entry)) (now (out .exit)) at next (word 1 atom ∷ word 5 0 ∷ []) ⌝ }
 {
-    let any = put_operation(out, at, 1, atom);
-    put_operation(out, any, 5, 0)
+    let any = put_operation(out, at, meaning::operation::ATOM, atom);
+    put_operation(out, any, meaning::operation::ANY, 0)
 }
 
 // Joins two guards, the first written before `middle` and the second before `end`.
@@ -39,34 +38,34 @@ fn join_guards(out: &mut [u32], from: usize, middle: usize, end: usize) -> usize
     if middle == end {
         return end;
     }
-    put_operation(out, end, 7, 0)
+    put_operation(out, end, meaning::operation::AND, 0)
 }
 
 // Puts the guard of alternative i of node n from the place on, without a closing `and`; the next place. The outline tells where
 // there is none to be looked for.
 fn guard_text(t: &[u32], outline: &[u32], n: u32, i: u32, work: &mut [u32], at: usize) -> usize
-    requires { ⌜ Numbered (now t) n i × Known (now t) (now outline) n × (at + length (guard-text (alternatives-of (now t) n) i) ≤ length (now work)) ⌝ }
+    requires { ⌜ OutlinedNumber (now t) (now outline) n i × (at + length (guard-text (alternatives-of (now t) n) i) ≤ length (now work)) ⌝ }
     ensures { λ next. ⌜ Wrote (now (work .entry)) (now (work .exit)) at next (guard-text (alternatives-of (now (t .entry)) n) i) ⌝ }
 {
-    if expand::flag_of(outline, n) == 0 {
+    if outline::flag_of(outline, n) == 0 {
         return at;
     }
-    bare_guard(t, outline, expand::bare_of(outline, n), i, work, at)
+    bare_guard(t, outline, outline::bare_of(outline, n), i, work, at)
 }
 
-// The same of a node that is no [*1].
+// Puts the guard of alternative i of node n, which is no [*1], as `guard_text` does.
 fn bare_guard(t: &[u32], outline: &[u32], n: u32, i: u32, work: &mut [u32], at: usize) -> usize
-    requires { ⌜ Numbered (now t) n i × Known (now t) (now outline) n × (at + length (guard-text (alternatives-of (now t) n) i) ≤ length (now work)) ⌝ }
+    requires { ⌜ OutlinedNumber (now t) (now outline) n i × (at + length (guard-text (alternatives-of (now t) n) i) ≤ length (now work)) ⌝ }
     ensures { λ next. ⌜ Wrote (now (work .entry)) (now (work .exit)) at next (guard-text (alternatives-of (now (t .entry)) n) i) ⌝ }
 {
     let v = tree::read(t, n);
-    if v.kind == 2 {
+    if v.kind == meaning::kind::DELAY {
         let s = expand::delay_parts(outline, v, i);
         let middle = guard_text(t, outline, v.p, s.left, work, at);
         let end = guard_text(t, outline, v.q, s.right, work, middle);
         return join_guards(work, at, middle, end);
     }
-    if v.kind == 6 {
+    if v.kind == meaning::kind::THROUGHOUT {
         let middle = guard_text(t, outline, v.q, i, work, at);
         let end = put_condition(work, middle, v.p);
         return join_guards(work, at, middle, end);
@@ -78,7 +77,7 @@ fn bare_guard(t: &[u32], outline: &[u32], n: u32, i: u32, work: &mut [u32], at: 
     at
 }
 
-// The same of k + 1 copies of node n, each joined to those before it.
+// Puts the guard of alternative i of k + 1 copies of node n, each joined to those before it.
 fn repeated_guard(
     t: &[u32],
     outline: &[u32],
@@ -88,7 +87,7 @@ fn repeated_guard(
     work: &mut [u32],
     at: usize,
 ) -> usize
-    requires { ⌜ NumberedCopies (now t) n k i × Known (now t) (now outline) n × (at + length (guard-text (copies-of (alternatives-of (now t) n) k) i) ≤ length (now work)) ⌝ }
+    requires { ⌜ OutlinedCopies (now t) (now outline) n k i × (at + length (guard-text (copies-of (alternatives-of (now t) n) k) i) ≤ length (now work)) ⌝ }
     ensures { λ next. ⌜ Wrote (now (work .entry)) (now (work .exit)) at next (guard-text (copies-of (alternatives-of (now (t .entry)) n) k) i) ⌝ }
 {
     let mut middle = at;
@@ -104,12 +103,15 @@ fn repeated_guard(
 
 // Puts the guard of alternative i of node n from the place on, closed by its `and` if there is one; the next place.
 pub fn guard_words(t: &[u32], outline: &[u32], n: u32, i: u32, work: &mut [u32], at: usize) -> usize
-    requires { ⌜ Numbered (now t) n i × Known (now t) (now outline) n × (at + length (closed-guard (alternatives-of (now t) n) i) ≤ length (now work)) ⌝ }
+    requires { ⌜ OutlinedNumber (now t) (now outline) n i × (at + length (closed-guard (alternatives-of (now t) n) i) ≤ length (now work)) ⌝ }
     ensures { λ next. ⌜ Wrote (now (work .entry)) (now (work .exit)) at next (closed-guard (alternatives-of (now (t .entry)) n) i) ⌝ }
 {
+    if outline::flag_of(outline, n) == 0 {
+        return at;
+    }
     let end = guard_text(t, outline, n, i, work, at);
     if at == end {
         return end;
     }
-    put_operation(work, end, 7, 0)
+    put_operation(work, end, meaning::operation::AND, 0)
 }

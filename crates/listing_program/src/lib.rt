@@ -26,7 +26,7 @@ fn print(input: &[u8]) -> u32 {
     tool::put_out(&page[..end], b"sva_list: standard output", status)
 }
 
-// The same of standard input. One byte more than a tree may have is read, so that a longer input is seen to be longer.
+// The text of the tree on standard input. One byte more than a tree may have is read, so that a longer input is seen to be longer.
 fn list() -> u32 {
     let mut input = [0u8; 40961];
     let read = tool::read(&mut input);

@@ -1,134 +1,172 @@
--- What the walk leaves of a root, by its kind: a within whose operands are paired, or a choice whose alternatives it counted.
--- From the definitions of the walk, node by node.
-use mathlib.Core.Path.{_≡_, refl, sym, ap, _∙_}
+-- What the walk leaves of a root, by its kind: a node whose alternatives can be kept, or a within whose operands are paired. And what the root
+-- lowers to: the choice of the one, all pairs of the other. So lengths do not depend on the first register.
+use mathlib.Core.Path.{_≡_, refl, sym, ap, ap₂, subst, _∙_}
 use mathlib.Core.List.{List}
-use Prim.Native.Nat.{ℕ, zero, suc, _-_, _/_, _<_, _≤_}
+use Prim.Native.Nat.{ℕ, _+_, _-_, _/_, _<_, _≤_}
 use native.Mathlib.Omega.{arith}
+use native.Mathlib.Decide.{ℕ-discrete}
 use lib.ListN.{length}
-use Rattle.meaning.specs.Tree.{Seq, atom, delay, consec, goto, nonconsec, throughout, within, node-at, tree-at, nodes, below, root}
-use Rattle.meaning.specs.Alternative.{expand}
-use Rattle.meaning.specs.Refusals.{counts, room-of}
-use Rattle.meaning.specs.Lowerable.{FormedTable, Walkable, WalkableRoot, Pairable}
+use Rattle.words.specs.Written.{Wrote}
+use Rattle.meaning.specs.Tree.{within, Rooted, another, rooted, node-at, tree-at, nodes, below, root}
+use Rattle.meaning.specs.Expression.{Synth}
+use Rattle.meaning.specs.Root.{choice, synth-within, synth-rooted}
+use Rattle.meaning.specs.Listing.{listing}
+use Rattle.meaning.specs.Refusals.{room-of, nowhere, first-misplaced, misplaced-rooted, misplaced}
+use Rattle.meaning.specs.Lower.{synth-of, words-of}
+use Rattle.meaning.specs.Lowerable.{Walkable, WalkableRooted, WalkableRoot, Pairable}
 use Rattle.meaning.specs.declared.Node.{Node}
-use Rattle.meaning.specs.declared.Counts.{Counts}
-use Rattle.meaning.proofs.Nodes.{at-atom, at-delay, at-consec, at-goto, at-nonconsec, at-throughout, at-within}
-use Rattle.meaning.proofs.Ranges.{by-kind}
-use Rattle.meaning.proofs.Walks.{root-counts, a-walked-root-is-walkable, the-walk-counts-the-root}
-use Rattle.expand.specs.ByNumber.{alternatives-of, Expandable}
-use Rattle.expand.specs.Outline.{outlined}
-use Rattle.expand.proofs.Outlining.{known-after, known-kept, length-outlined}
-use Rattle.choice.specs.Passes.{Root}
-use Rattle.within.specs.Rows.{Paired}
-use Rattle.lower.specs.Stages.{RootWithin, Walks}
+use Rattle.meaning.proofs.Members.{below-is-one-less}
+use Rattle.meaning.proofs.Roots.{a-node-of-another-kind}
+use Rattle.meaning.proofs.Walks.{room-is-small, a-walkable-tree-is-bounded, a-walked-root-is-walkable}
+use Rattle.outline.specs.Outline.{Expandable}
+use Rattle.outline.proofs.ByWords.{well-formed, is-within}
+use Rattle.expand.specs.ByNumber.{alternatives-of}
+use Rattle.expand.proofs.ByKind.{some-alternatives}
+use Rattle.alternative.specs.Keeping.{Keepable}
+use Rattle.alternative.proofs.Keeping.{room-in-work}
+use Rattle.choice.specs.ChoiceWords.{all-registers, choice-words, survey-by, survey-of, Numberable}
+use Rattle.choice.specs.declared.Survey.{Survey}
+use Rattle.choice.specs.declared.Survey.the-variants.{Registers}
+use Rattle.choice.proofs.Words.{the-registers-of-a-choice, the-listing-of-a-choice, as-long-a-choice}
+use Rattle.choice.proofs.Surveys.{the-survey}
+use Rattle.within.specs.AllPairs.{all-registers as within-registers, within-words}
+use Rattle.within.specs.Rows.{Paired, Numberable as NumberablePairs}
+use Rattle.within.proofs.PairByPair.{the-registers-of-a-within}
+use Rattle.within.proofs.Lengths.{as-many-words as as-long-a-within}
+use Rattle.lower.specs.Stages.{register-count, survey-root, Outlines}
 
--- A node of another kind than 7 is walked as any node below the root is.
-no-within : (t : List ℕ) (n room : ℕ) → FormedTable t → n < nodes t → (node-at t n .kind ≡ 7 → ⊥) → WalkableRoot room (tree-at t n) → Walkable room (tree-at t n)
-unfolding WalkableRoot
-no-within t n room formed inside other W =
-    let w = formed .each n inside in
-    by-kind (node-at t n .kind) (w .known)
-    (λ k. rw (at-atom t n k) (rw (at-atom t n k) at W))
-    (λ k. let e = at-delay t n k (w .delay-left k) (w .delay-right k) in rw e (rw e at W))
-    (λ k. let e = at-consec t n k (w .consec-under k) in rw e (rw e at W))
-    (λ k. let e = at-goto t n k (w .goto-under k) in rw e (rw e at W))
-    (λ k. let e = at-nonconsec t n k (w .nonconsec-under k) in rw e (rw e at W))
-    (λ k. let e = at-throughout t n k (w .throughout-under k) in rw e (rw e at W))
-    (λ k. absurd (other k))
+-- The passes over the words: what a pass counts, has room for and writes is the listing, whichever definition the pass has of it. Words are
+-- counted with registers from 0 on.
+pub few-from-0 : {registers : ℕ} → registers ≤ 65536 → 0 + registers ≤ 65536
+few-from-0 few = omega arith
 
--- Its counts are those of its alternatives.
-counted-alternatives : (room : ℕ) (s : Seq) → Walkable room s → root-counts s .alternatives ≡ length (expand s)
-unfolding Walkable counts
-counted-alternatives room (atom n a) W = refl
-counted-alternatives room (delay n l r m x) W = refl
-counted-alternatives room (consec n s m x) W = refl
-counted-alternatives room (goto n s k) W = refl
-counted-alternatives room (nonconsec n s k) W = refl
-counted-alternatives room (throughout n c s) W = refl
-counted-alternatives room (within n s₁ s₂) W = absurd W
+module _ {ws ws₁ : List ℕ} (same : ws ≡ ws₁) where
+  pub counted-as : {words : ℕ} → words ≡ length ws₁ → words ≡ length ws
+  counted-as q = q ∙ sym (ap length same)
 
-last-node : (count : ℕ) → 1 ≤ count → count - 1 ≡ below count
-last-node zero h = absurd (omega arith)
-last-node (suc count) h = omega arith
+  pub room-as : {out : ℕ} → length ws ≤ out → length ws₁ ≤ out
+  room-as h = rw (← same) h
 
-module _ {t : List ℕ} {work : ℕ} {c : Counts} (W : Walks t work c) {v : Node} (e : v ≡ node-at t (length t / 5 - 1)) where
+  pub written-as : {out out₁ : List ℕ} {end : ℕ} → Wrote out out₁ 0 end ws₁ → Wrote out out₁ 0 end ws
+  written-as w = rw same w
+
+module _ {t o : List ℕ} {work : ℕ} (O : Outlines t o work) {v : Node} (e : v ≡ node-at t (length t / 5 - 1)) where
   abbrev n : ℕ
   n = length t / 5 - 1
 
   is-last : n ≡ below (nodes t)
-  is-last = last-node (nodes t) (W .formed .some)
+  is-last = sym (below-is-one-less (nodes t))
 
   is-inside : n < nodes t
-  is-inside = omega (arith, W .formed .some)
+  is-inside = omega (arith, O .formed .some)
 
   walkable-root : WalkableRoot (room-of work) (tree-at t n)
-  walkable-root = rw is-last (a-walked-root-is-walkable (room-of work) (root t) c (sym (W .walks)))
+  walkable-root = rw is-last (a-walked-root-is-walkable (room-of work) (root t) (O .counts) (sym (O .walks)))
 
   -- A root of another kind than 7.
   module _ (other : v .kind ≡ 7 → ⊥) where
+    is-another : rooted (tree-at t n) ≡ another (tree-at t n)
+    is-another = a-node-of-another-kind t n (λ k. other (rw e k))
+
     walkable : Walkable (room-of work) (tree-at t n)
-    walkable = no-within t n (room-of work) (W .formed) is-inside (λ k. other (rw e k)) walkable-root
+    unfolding WalkableRoot
+    walkable = subst (WalkableRooted (room-of work)) is-another walkable-root
 
-    pub root-is-expandable : Expandable t n
-    root-is-expandable = record { formed = W .formed; inside = is-inside; room = room-of work; walkable = walkable }
+    node : Expandable t n
+    node = record { formed = O .formed; inside = is-inside; room = room-of work; walkable = walkable }
 
-    pub root-is-chosen : (o : List ℕ) {o₁ : List ℕ} → nodes t ≤ length o → o₁ ≡ outlined (tree-at t n) o → Root t o₁ n (c .alternatives) work
+    pub root-is-keepable : Keepable t o n 0 work
     unfolding alternatives-of
-    root-is-chosen o long made = record {
-      formed = W .formed;
-      inside = is-inside;
-      walkable = walkable;
-      known = rw made (known-after o root-is-expandable long);
-      counted =
-          ap (λ (x : Counts). x .alternatives) (the-walk-counts-the-root (room-of work) (root t) c (sym (W .walks)))
-          ∙ rw (← is-last) (counted-alternatives (room-of work) (tree-at t n) walkable);
-    }
+    root-is-keepable =
+        let bounded = a-walkable-tree-is-bounded (room-of work) (tree-at t n) walkable in
+        record {
+          node = node;
+          known = rw is-last (O .known .whole (λ k. other (rw (e, is-last) k)));
+          room = omega (arith, bounded .fits, room-in-work work);
+          few = omega (arith, bounded .fits, room-is-small work);
+        }
 
-    pub root-is-last : n ≡ below (nodes t)
-    root-is-last = is-last
+    choice-misplaced : misplaced (root t) ≡ first-misplaced 0 (alternatives-of t n)
+    unfolding alternatives-of misplaced
+    choice-misplaced = rw (← is-last) (ap misplaced-rooted is-another)
+
+    choice-synth : (first : ℕ) → synth-of t first ≡ choice (alternatives-of t n) first
+    unfolding alternatives-of synth-of
+    choice-synth first = rw (← is-last) (ap (λ (x : Rooted). synth-rooted x first) is-another)
+
+    pub choice-registers : (first : ℕ) → length (synth-of t first .stores) ≡ all-registers (alternatives-of t n)
+    choice-registers first = ap (λ (y : Synth). length (y .stores)) (choice-synth first) ∙ the-registers-of-a-choice (alternatives-of t n) first
+
+    pub choice-listing : (first : ℕ) → words-of t first ≡ choice-words (alternatives-of t n) first
+    unfolding words-of
+    choice-listing first = ap (listing first) (choice-synth first) ∙ the-listing-of-a-choice (alternatives-of t n) first (some-alternatives node)
+
+    pub choice-surveyed : {survey : Survey} → survey ≡ survey-of (alternatives-of t n) → survey ≡ survey-root t
+    unfolding survey-root register-count
+    choice-surveyed s = s ∙ the-survey (alternatives-of t n) ∙ sym (ap₂ survey-by choice-misplaced (choice-registers 0))
+
+    pub root-is-numberable : (first : ℕ) → first + register-count t ≤ 65536 → Numberable t o n first work
+    unfolding register-count
+    root-is-numberable first few = record { keepable = root-is-keepable; few = omega (arith, choice-registers 0) }
 
   -- A root within.
   module _ (k : v .kind ≡ 7) where
-    here : node-at t n .kind ≡ 7
-    here = rw (← e) k
+    is-pair : tree-at t n ≡ within n (tree-at t (v .p)) (tree-at t (v .q))
+    is-pair = is-within (O .formed) is-inside e k
 
-    pair : tree-at t n ≡ within n (tree-at t (node-at t n .p)) (tree-at t (node-at t n .q))
-    pair = at-within t n here (W .formed .each n is-inside .within-one here) (W .formed .each n is-inside .within-two here)
-
-    pub root-is-within : RootWithin t (v .p) (v .q)
-    root-is-within = record { number = n; is = rw (← is-last, e) pair }
-
-    walked : Walkable (room-of work) (tree-at t (v .p)) × Walkable (room-of work) (tree-at t (v .q)) × Pairable (room-of work) (alternatives-of t (v .p)) (alternatives-of t (v .q))
+    both : Walkable (room-of work) (tree-at t (v .p)) × Walkable (room-of work) (tree-at t (v .q)) × Pairable (room-of work) (alternatives-of t (v .p)) (alternatives-of t (v .q))
     unfolding alternatives-of WalkableRoot
-    walked = rw e (rw pair at walkable-root)
+    both = rw is-pair at walkable-root
 
-    pub one-is-expandable : Expandable t (v .p)
-    one-is-expandable = record {
-      formed = W .formed;
-      inside = rw e (omega (arith, W .formed .each n is-inside .within-one here, is-inside));
-      room = room-of work;
-      walkable = walked .0;
-    }
+    pub operands-are-paired : Paired t o (v .p) (v .q) work
+    operands-are-paired =
+        let formed = well-formed (O .formed) is-inside e in
+        let here : node-at t (below (nodes t)) .kind ≡ 7 = rw (← is-last, ← e) k in
+        record {
+          formed = O .formed;
+          one-inside = omega (arith, formed .within-one k, is-inside);
+          two-inside = omega (arith, formed .within-two k, is-inside);
+          one-walkable = both .0;
+          two-walkable = both .1;
+          one-known = rw (e, is-last) (O .known .one here);
+          two-known = rw (e, is-last) (O .known .two here);
+          pairs = both .2;
+        }
 
-    pub two-is-expandable : Expandable t (v .q)
-    two-is-expandable = record {
-      formed = W .formed;
-      inside = rw e (omega (arith, W .formed .each n is-inside .within-two here, is-inside));
-      room = room-of work;
-      walkable = walked .1;
-    }
+    within-synth : (first : ℕ) → synth-of t first ≡ synth-within (alternatives-of t (v .p)) (alternatives-of t (v .q)) first
+    unfolding alternatives-of synth-of
+    within-synth first = rw (← is-last, is-pair) refl
 
-    module _ (o : List ℕ) {o₁ : List ℕ} (long : nodes t ≤ length o) (made : o₁ ≡ outlined (tree-at t (v .p)) o) where
-      pub still-long-enough : nodes t ≤ length o₁
-      still-long-enough = rw made (omega (arith, length-outlined (tree-at t (v .p)) o))
+    pub within-stored : (first : ℕ) → length (synth-of t first .stores) ≡ within-registers (alternatives-of t (v .p)) (alternatives-of t (v .q))
+    within-stored first = ap (λ (y : Synth). length (y .stores)) (within-synth first) ∙ the-registers-of-a-within _ _ (both .2 .one) (both .2 .two) first
 
-      pub operands-are-paired : {o₂ : List ℕ} → o₂ ≡ outlined (tree-at t (v .q)) o₁ → Paired t o₂ (v .p) (v .q) work
-      operands-are-paired made₂ = record {
-        formed = W .formed;
-        one-inside = one-is-expandable .inside;
-        two-inside = two-is-expandable .inside;
-        one = walked .0;
-        two = walked .1;
-        pairs = walked .2;
-        one-known = rw made₂ (known-kept o₁ two-is-expandable still-long-enough (rw made (known-after o one-is-expandable long)));
-        two-known = rw made₂ (known-after o₁ two-is-expandable still-long-enough);
-      }
+    pub within-listing : (first : ℕ) → words-of t first ≡ within-words (alternatives-of t (v .p)) (alternatives-of t (v .q)) first
+    unfolding words-of within-words
+    within-listing first = ap (listing first) (within-synth first)
+
+    within-misplaced : misplaced (root t) ≡ nowhere
+    unfolding misplaced
+    within-misplaced = rw (← is-last, is-pair) refl
+
+    pub within-surveyed : {registers : ℕ} → registers ≡ within-registers (alternatives-of t (v .p)) (alternatives-of t (v .q)) → Registers registers ≡ survey-root t
+    unfolding survey-root register-count
+    within-surveyed q = ap Registers q ∙ sym (ap₂ survey-by within-misplaced (within-stored 0))
+
+    pub operands-are-numberable : (first : ℕ) → first + register-count t ≤ 65536 → NumberablePairs t o (v .p) (v .q) first work
+    unfolding register-count
+    operands-are-numberable first few = record { paired = operands-are-paired; few = omega (arith, within-stored 0) }
+
+-- From any register on there are as many registers and words.
+module _ {t o : List ℕ} {work : ℕ} (O : Outlines t o work) (first : ℕ) where
+  pub as-many-registers : length (synth-of t first .stores) ≡ register-count t
+  unfolding register-count
+  as-many-registers = elim (ℕ-discrete (node-at t (length t / 5 - 1) .kind) 7) [
+    | yes k ↦ within-stored O refl k first ∙ sym (within-stored O refl k 0)
+    | no other ↦ choice-registers O refl other first ∙ sym (choice-registers O refl other 0)
+  ]
+
+  pub as-many-words : length (words-of t first) ≡ length (words-of t 0)
+  as-many-words = elim (ℕ-discrete (node-at t (length t / 5 - 1) .kind) 7) [
+    | yes k ↦ ap length (within-listing O refl k first) ∙ as-long-a-within _ _ (operands-are-paired O refl k .pairs .one) (operands-are-paired O refl k .pairs .two) first ∙ sym (ap length (within-listing O refl k 0))
+    | no other ↦ ap length (choice-listing O refl other first) ∙ as-long-a-choice (alternatives-of t (length t / 5 - 1)) first ∙ sym (ap length (choice-listing O refl other 0))
+  ]

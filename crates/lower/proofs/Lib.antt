@@ -1,3 +1,3 @@
 pub mod Operands
-pub mod Laws
 pub mod AtRoot
+pub mod Laws

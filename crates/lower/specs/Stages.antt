@@ -4,9 +4,9 @@ use mathlib.Core.Path.{_≡_}
 use mathlib.Core.List.{List}
 use Prim.Native.Nat.{ℕ, _+_, _≤_}
 use lib.ListN.{length}
-use Rattle.meaning.specs.Tree.{within, tree-at, root}
+use Rattle.meaning.specs.Tree.{root}
 use Rattle.meaning.specs.Refusals.{walk-root, room-of, nowhere, misplaced}
-use Rattle.meaning.specs.Lower.{synth-of, words-of}
+use Rattle.meaning.specs.Lower.{synth-of}
 use Rattle.meaning.specs.Lowerable.{FormedTable}
 use Rattle.meaning.specs.declared.Table.{Table}
 use Rattle.meaning.specs.declared.Table.the-variants.{Formed, Refused as Misformed}
@@ -15,13 +15,10 @@ use Rattle.meaning.specs.declared.Walked.{Walked}
 use Rattle.meaning.specs.declared.Walked.the-variants.{Counted, Refused as Stopped}
 use Rattle.meaning.specs.declared.Lowered.{Lowered}
 use Rattle.meaning.specs.declared.Lowered.the-variants.{Refused}
-use Rattle.expand.specs.ByNumber.{alternatives-of}
-use Rattle.choice.specs.Alternatives.{all-registers, choice-words}
-use Rattle.choice.specs.Passes.{Root}
+use Rattle.outline.specs.Outline.{KnownRoot}
+use Rattle.choice.specs.ChoiceWords.{survey-by}
 use Rattle.choice.specs.declared.Survey.{Survey}
 use Rattle.choice.specs.declared.Survey.the-variants.{Misplaced, Registers}
-use Rattle.within.specs.AllPairs.{all-registers as within-registers, within-words}
-use Rattle.within.specs.Rows.{Paired}
 
 -- A refusal handed up, under the number and the place that it was found with. What is no refusal never gets here.
 unfoldable pub surveyed-answer : Survey → Lowered
@@ -36,32 +33,23 @@ unfoldable pub table-answer : Table → Lowered
 table-answer (Misformed number place) = Refused number place
 table-answer Formed = Refused 1 0
 
--- A tree past 12 and 13, with its registers and its words.
-pub record Placed (t : List ℕ) (first registers : ℕ) (ws : List ℕ) : Type 0 where
+-- How many registers the tree has: as many from any number on.
+unfoldable pub register-count : List ℕ → ℕ
+register-count t = length (synth-of t 0 .stores)
+
+-- What the first pass answers: 12 of the lowest alternative, or the registers.
+unfoldable pub survey-root : List ℕ → Survey
+survey-root t = survey-by (misplaced (root t)) (register-count t)
+
+-- A table that passed its checks and that the walk counted, with so much work; o is the outline that the walk noted.
+pub record Outlines (t o : List ℕ) (work : ℕ) : Type 0 where
   pub formed : FormedTable t
+  pub counts : Counts
+  pub walks : Counted counts ≡ walk-root (room-of work) (root t)
+  pub known : KnownRoot t o
+
+-- A tree past 12 and 13, with its registers.
+pub record Placed (t : List ℕ) (first registers : ℕ) : Type 0 where
   pub placed : misplaced (root t) ≡ nowhere
-  pub stored : length (synth-of t first .stores) ≡ registers
-  pub words : words-of t first ≡ ws
+  pub counted : registers ≡ register-count t
   pub few : first + registers ≤ 65536
-
--- .. whose root is no within; o is its outline.
-pub record PlacedChoice (t o : List ℕ) (n count first registers work : ℕ) : Type 0 where
-  pub root : Root t o n count work
-  pub counted : registers ≡ all-registers (alternatives-of t n)
-  pub placed : Placed t first registers (choice-words (alternatives-of t n) first)
-
--- .. whose root is a within; its operands are the nodes one and two.
-pub record PlacedWithin (t o : List ℕ) (one two first registers work : ℕ) : Type 0 where
-  pub paired : Paired t o one two work
-  pub counted : registers ≡ within-registers (alternatives-of t one) (alternatives-of t two)
-  pub placed : Placed t first registers (within-words (alternatives-of t one) (alternatives-of t two) first)
-
--- The root is a within of the nodes one and two.
-pub record RootWithin (t : List ℕ) (one two : ℕ) : Type 0 where
-  pub number : ℕ
-  pub is : root t ≡ within number (tree-at t one) (tree-at t two)
-
--- A table that the walk counted, with so much work.
-pub record Walks (t : List ℕ) (work : ℕ) (c : Counts) : Type 0 where
-  pub formed : FormedTable t
-  pub walks : Counted c ≡ walk-root (room-of work) (root t)

@@ -3,18 +3,21 @@
 // more, and work is cleared once, after its last use.
 //
 // Example: the words of `a ##1 b` with 32 words of work and 8 of output give Listing(1, 8, 2); with 7 of output, Refused(14, 0).
+use meaning::kind;
 ghost use mathlib.Core.Path.{_≡_};
 ghost use Prim.Native.Nat.{_+_, _≤_};
 ghost use lib.Dec.{ltb};
 ghost use lib.ListN.{length, take};
-ghost use Rattle.listing.specs.Operands.{OperandsFound};
+ghost use Rattle.words.specs.Written.{Wrote};
+ghost use Rattle.meaning.specs.Tree.{nodes};
+ghost use Rattle.meaning.specs.Refusals.{table};
 ghost use Rattle.meaning.specs.Listing.{deepest};
+ghost use Rattle.meaning.specs.Lower.{words-of};
+ghost use Rattle.meaning.specs.declared.Table.the-variants.{Formed};
 ghost use Rattle.meaning.specs.declared.Lowered.the-variants.{Listing};
-ghost use Rattle.meaning.specs.Tree.{nodes, below};
-ghost use Rattle.choice.specs.Passes.{Root};
-ghost use Rattle.within.specs.Rows.{Paired};
+ghost use Rattle.listing.specs.Operands.{OperandsFound};
 ghost use Rattle.lower.specs.Answers.{Lowers, Answers, Finishes};
-ghost use Rattle.lower.specs.Stages.{surveyed-answer, walked-answer, table-answer, PlacedChoice, PlacedWithin, RootWithin, Walks};
+ghost use Rattle.lower.specs.Stages.{surveyed-answer, walked-answer, table-answer, register-count, survey-root, Outlines, Placed};
 
 // 13: whether the last register's number would be too large for a word.
 fn too_many(first: u32, registers: u64) -> bool
@@ -45,134 +48,85 @@ fn misplaced(survey: choice::Survey) -> meaning::Lowered
     }
 }
 
-// A root that is no within, past 12 and 13: 14, or the listing.
-fn listed_choice(
+// The first pass over a tree that the walk counted, by the kind of the root: 12, which never falls on a within, or all registers.
+fn surveyed(tree: &[u32], outline: &[u32], work: &mut [u32]) -> choice::Survey
+    requires { ⌜ Outlines (now tree) (now outline) (length (now work)) ⌝ }
+    ensures { λ r. ⌜ r ≡ survey-root (now (tree .entry)) ⌝ }
+{
+    let n = (tree.len() / 5 - 1) as u32;
+    let v = tree::read(tree, n);
+    if v.kind == kind::WITHIN {
+        let registers = within::registers(tree, outline, v.p, v.q, work);
+        return choice::Survey::Registers(registers);
+    }
+    choice::surveyed(tree, outline, n, work)
+}
+
+// The second pass over a counted tree, by the kind of the root: how many words the listing has, from any register on.
+fn word_count(tree: &[u32], outline: &[u32], work: &mut [u32]) -> u64
+    requires { ⌜ Outlines (now tree) (now outline) (length (now work)) × (register-count (now tree) ≤ 65536) ⌝ }
+    ensures { λ r. ⌜ r ≡ length (words-of (now (tree .entry)) 0) ⌝ }
+{
+    let n = (tree.len() / 5 - 1) as u32;
+    let v = tree::read(tree, n);
+    if v.kind == kind::WITHIN {
+        return within::word_count(tree, outline, v.p, v.q, work);
+    }
+    choice::word_count(tree, outline, n, work)
+}
+
+// The third pass over a counted tree, by the kind of the root: puts the listing in front of the output, and says how many words it has.
+fn write(tree: &[u32], outline: &[u32], first: u32, work: &mut [u32], out: &mut [u32]) -> usize
+    requires { ⌜ Outlines (now tree) (now outline) (length (now work)) × (first + register-count (now tree) ≤ 65536) × (length (words-of (now tree) first) ≤ length (now out)) ⌝ }
+    ensures { λ end. ⌜ Wrote (now (out .entry)) (now (out .exit)) 0 end (words-of (now (tree .entry)) first) ⌝ }
+{
+    let n = (tree.len() / 5 - 1) as u32;
+    let v = tree::read(tree, n);
+    if v.kind == kind::WITHIN {
+        return within::write(tree, outline, v.p, v.q, first, work, out);
+    }
+    choice::write(tree, outline, n, first, work, out)
+}
+
+// A tree past 12 and 13, of so many registers: 14, or the listing.
+fn listed_root(
     tree: &[u32],
     outline: &[u32],
-    n: u32,
-    count: u32,
     first: u32,
     registers: u64,
     work: &mut [u32],
     out: &mut [u32],
 ) -> meaning::Lowered
-    requires { ⌜ PlacedChoice (now tree) (now outline) n count first registers (length (now work)) ⌝ }
+    requires { ⌜ Outlines (now tree) (now outline) (length (now work)) × Placed (now tree) first registers ⌝ }
     ensures { λ r. ⌜ Finishes (now (tree .entry)) first (now (out .entry)) r (now (out .exit)) ⌝ }
 {
-    let words = choice::word_count(tree, outline, n, count, first, work);
+    let words = word_count(tree, outline, work);
     if (out.len() as u64) < words {
         return meaning::Lowered::Refused(14, 0);
     }
-    let end = choice::write(tree, outline, n, count, first, work, out);
+    let end = write(tree, outline, first, work, out);
     listed(registers, out, end)
 }
 
-// A root that is no within: 12, 13, or what comes then.
-fn lowered_choice(
+// A tree that the walk counted: 12, 13, 14, or the listing.
+fn lowered_root(
     tree: &[u32],
     outline: &[u32],
-    n: u32,
-    count: u32,
     first: u32,
     work: &mut [u32],
     out: &mut [u32],
 ) -> meaning::Lowered
-    requires { ⌜ Root (now tree) (now outline) n count (length (now work)) × (n ≡ below (nodes (now tree))) ⌝ }
+    requires { ⌜ Outlines (now tree) (now outline) (length (now work)) ⌝ }
     ensures { λ r. ⌜ Finishes (now (tree .entry)) first (now (out .entry)) r (now (out .exit)) ⌝ }
 {
-    let survey = choice::surveyed(tree, outline, n, count, work);
+    let survey = surveyed(tree, outline, work);
     let choice::Survey::Registers(registers) = survey else {
         return misplaced(survey);
     };
     if too_many(first, registers) {
         return meaning::Lowered::Refused(13, 0);
     }
-    listed_choice(tree, outline, n, count, first, registers, work, out)
-}
-
-// A root within, past 13: 14, or the listing.
-fn listed_within(
-    tree: &[u32],
-    outline: &[u32],
-    one: u32,
-    two: u32,
-    first: u32,
-    registers: u64,
-    work: &mut [u32],
-    out: &mut [u32],
-) -> meaning::Lowered
-    requires { ⌜ PlacedWithin (now tree) (now outline) one two first registers (length (now work)) ⌝ }
-    ensures { λ r. ⌜ Finishes (now (tree .entry)) first (now (out .entry)) r (now (out .exit)) ⌝ }
-{
-    let words = within::word_count(tree, outline, one, two, work);
-    if (out.len() as u64) < words {
-        return meaning::Lowered::Refused(14, 0);
-    }
-    let end = within::write(tree, outline, one, two, first, work, out);
-    listed(registers, out, end)
-}
-
-// A root within of the nodes one and two: 13, or what comes then. 12 never falls on it.
-fn lowered_within(
-    tree: &[u32],
-    outline: &[u32],
-    one: u32,
-    two: u32,
-    first: u32,
-    work: &mut [u32],
-    out: &mut [u32],
-) -> meaning::Lowered
-    requires { ⌜ Paired (now tree) (now outline) one two (length (now work)) × RootWithin (now tree) one two ⌝ }
-    ensures { λ r. ⌜ Finishes (now (tree .entry)) first (now (out .entry)) r (now (out .exit)) ⌝ }
-{
-    let registers = within::registers(tree, outline, one, two, work);
-    if too_many(first, registers) {
-        return meaning::Lowered::Refused(13, 0);
-    }
-    listed_within(tree, outline, one, two, first, registers, work, out)
-}
-
-// A tree that the walk counted, by the kind of its root. Its outline is made here, once for all alternatives and passes.
-fn lowered_root(
-    tree: &[u32],
-    c: meaning::Counts,
-    first: u32,
-    outline: &mut [u32],
-    work: &mut [u32],
-    out: &mut [u32],
-) -> meaning::Lowered
-    requires { ⌜ Walks (now tree) (length (now work)) c × (nodes (now tree) ≤ length (now outline)) ⌝ }
-    ensures { λ r. ⌜ Finishes (now (tree .entry)) first (now (out .entry)) r (now (out .exit)) ⌝ }
-{
-    let n = (tree.len() / 5 - 1) as u32;
-    let v = tree::read(tree, n);
-    if v.kind == 7 {
-        expand::put_outline(tree, v.p, outline);
-        expand::put_outline(tree, v.q, outline);
-        return lowered_within(tree, outline, v.p, v.q, first, work, out);
-    }
-    expand::put_outline(tree, n, outline);
-    lowered_choice(tree, outline, n, c.alternatives, first, work, out)
-}
-
-// The same with an outline of its own, which stands on the stack only from here on, when the walk is done. Few trees need as many
-// words as a tree may have nodes, and clearing these takes longer than lowering a small one.
-fn outlined_root(
-    tree: &[u32],
-    c: meaning::Counts,
-    first: u32,
-    work: &mut [u32],
-    out: &mut [u32],
-) -> meaning::Lowered
-    requires { ⌜ Walks (now tree) (length (now work)) c ⌝ }
-    ensures { λ r. ⌜ Finishes (now (tree .entry)) first (now (out .entry)) r (now (out .exit)) ⌝ }
-{
-    if tree.len() <= 320 {
-        let mut outline = [0u32; 64];
-        return lowered_root(tree, c, first, &mut outline, work, out);
-    }
-    let mut outline = [0u32; 4096];
-    lowered_root(tree, c, first, &mut outline, work, out)
+    listed_root(tree, outline, first, registers, work, out)
 }
 
 // 1 to 3, of a table that the checks refuse.
@@ -195,7 +149,26 @@ fn stopped(walked: meaning::Walked) -> meaning::Lowered
     }
 }
 
-// Every refusal in 01's order, or the listing; work is left as the last alternative stands in it.
+// A table that passed its checks: the walk, which notes the outline as it counts, then what comes behind it.
+fn walked_root(
+    tree: &[u32],
+    first: u32,
+    outline: &mut [u32],
+    work: &mut [u32],
+    out: &mut [u32],
+) -> meaning::Lowered
+    requires { ⌜ (table (now tree) ≡ Formed) × (nodes (now tree) ≤ length (now outline)) ⌝ }
+    ensures { λ r. ⌜ Answers (now (tree .entry)) first (length (now (work .entry))) (now (out .entry)) r (now (out .exit)) ⌝ }
+{
+    let walked = count::walked_root(tree, work.len(), outline);
+    let meaning::Walked::Counted(_) = walked else {
+        return stopped(walked);
+    };
+    lowered_root(tree, outline, first, work, out)
+}
+
+// Every refusal in the specification's order, or the listing; work is left as the last alternative stands in it. Few trees need an outline of as many words
+// as a tree may have nodes, and clearing these takes longer than lowering a small one.
 fn answered(tree: &[u32], first: u32, work: &mut [u32], out: &mut [u32]) -> meaning::Lowered
     ensures { λ r. ⌜ Answers (now (tree .entry)) first (length (now (work .entry))) (now (out .entry)) r (now (out .exit)) ⌝ }
 {
@@ -203,11 +176,12 @@ fn answered(tree: &[u32], first: u32, work: &mut [u32], out: &mut [u32]) -> mean
     let meaning::Table::Formed = table else {
         return misformed(table);
     };
-    let walked = count::walked_root(tree, work.len());
-    let meaning::Walked::Counted(c) = walked else {
-        return stopped(walked);
-    };
-    outlined_root(tree, c, first, work, out)
+    if tree.len() <= 320 {
+        let mut outline = [0u32; 64];
+        return walked_root(tree, first, &mut outline, work, out);
+    }
+    let mut outline = [0u32; 4096];
+    walked_root(tree, first, &mut outline, work, out)
 }
 
 // Lowering with registers numbered from `first` on.

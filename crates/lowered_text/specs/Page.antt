@@ -1,4 +1,4 @@
--- What is printed of a tree (01, the listing program): the text of its answer, "with 16,384 words each of work and output"; and
+-- What is printed of a tree (SPECIFICATION, "The listing program"): the text of its answer, "with 16,384 words of work and as many of output"; and
 -- what is printed of the bytes that hold its words.
 -- Example: of `a ##1 b` it is "ok 1 8 2\nseq 0 = a0 any\nmatch = r0 a1 any and\n", of three bytes "refused 1 0\n".
 use mathlib.Core.Path.{_≡_}
@@ -18,7 +18,7 @@ use Rattle.lowered_text.specs.declared.Shown.{Shown}
 unfoldable pub page-text : List ℕ → List ℕ
 page-text t = answer-text (lower t 16384 16384 0) (words-of t 0)
 
--- "At most 40,960 bytes; a longer or uneven input prints `refused 1 0`": what is made of no tree, and of a tree.
+-- "An input of more than 40,960 bytes, or of a number of bytes that is no multiple of four, prints refused 1 0": what is made of no tree, and of a tree.
 unfoldable pub of-input : {A : Type 0} → List ℕ → A → A → A
 of-input input refused lowered = pick (ltb 40960 (length input)) refused (pick (eqb (length input % 4) 0) lowered refused)
 

@@ -1,5 +1,3 @@
-pub mod Stored
-pub mod Alternatives
 pub mod Windows
 pub mod Delays
 pub mod Pairs

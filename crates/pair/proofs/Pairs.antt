@@ -1,207 +1,156 @@
--- One alternative of seq1 beside one of seq2, as the code meets it: skipped where its window k is above l, else its
--- assignments, its delays and its text. Each law has its premises in the order in which the code learns them.
+-- A pair that is kept, as the code meets it: its assignments, its delays and its text, part by part; and that these are the pair's of the
+-- alternatives that are kept. Each law has its premises in the order in which the code learns them.
 use mathlib.Core.Path.{_≡_, refl, sym, ap, _∙_}
-use mathlib.Core.Bool.{Bool, true, false}
-use mathlib.Core.List.{List, [], _∷_, _++_, append-assoc}
+use mathlib.Core.List.{List, [], _∷_, _++_}
 use Prim.Native.Nat.{ℕ, _+_, _*_, _-_, _<_, _≤_}
 use native.Mathlib.Omega.{arith}
 use mir.Val.{Fits}
-use mir.Syntax.{w32, w64}
-use lib.ListN.{length, take, length-append}
-use lib.Seq.{length-take-le}
-use borrow.Author.Tests.{le-leb, lt-leb, eq-eqb, ne-eqb}
-use Rattle.words.specs.Choice.{pick, pick-true, pick-false}
+use mir.Syntax.{w32}
+use lib.ListN.{length}
+use borrow.Author.Tests.{eq-eqb, ne-eqb}
+use Rattle.words.specs.Choice.{pick-true, pick-false}
 use Rattle.words.specs.Written.{Wrote}
-use Rattle.words.proofs.Laws.{still-long, begin, go, nothing-written, last, same-words}
-use Rattle.meaning.specs.Listing.{word}
-use Rattle.meaning.specs.Root.{window-len}
-use Rattle.meaning.specs.declared.SeqStep.{SeqStep}
-use Rattle.pair.specs.declared.Fit.{Fit}
-use Rattle.pair.specs.declared.Fit.the-variants.{Delays, Above}
-use Rattle.pipeline.specs.Stores.{delay-store-words}
-use Rattle.pair.specs.Pairs.{registers-in, stores-in, text-in, fits-in, further, fit-of, delay-texts, pair-registers, pair-stores, pair-text, joining, taken-registers, taken-stores, taken-text}
+use Rattle.words.proofs.Laws.{same-words, first-room, second-room, both-done, third-room, three-done}
+use Rattle.meaning.specs.Alternative.{SeqAlt}
+use Rattle.meaning.specs.Expression.{seq}
+use Rattle.term.specs.declared.Kept.{Kept}
+use Rattle.term.specs.Keeping.{guard-of, without-guard, Whole}
+use Rattle.term.proofs.Keeping.{no-guard, whole-without-guard}
+use Rattle.step_text.specs.Text.{register-word, and-word, or-word, store-word}
+use Rattle.pipeline.specs.Stores.{delay-store-words, alternative-store-words}
+use Rattle.pipeline.proofs.Laws.{fixed-rest-room, fixed-done}
+use Rattle.alternative.specs.Alternatives.{registers-in}
+use Rattle.alternative.specs.Keeping.{Holds, kept-text}
+use Rattle.alternative.proofs.Laws.{kept-registers, kept-stores, kept-texts, placed}
+use Rattle.pair.specs.declared.Pair.{Pair}
+use Rattle.pair.specs.Pairs.{Fitted, delay-texts, joining, pair-registers, pair-stores, pair-text, slide-store-words, slid-text-words, kept-pair-registers, first-delay, kept-pair-stores, kept-pair-text, Slid, PlacedPair, Marked}
 use Rattle.pair.proofs.Delays.{length-ored}
 
--- "window k1 not above l", and how many further delays.
-module _ (l : ℕ) (ss : List SeqStep) {k : ℕ} (e : k ≡ window-len ss) where
-  pub fits-with : k ≤ l → Delays (l - k) ≡ fit-of l ss
-  unfolding fit-of fits-in further
-  fits-with below = rw e (sym (pick-true _ _ (le-leb (window-len ss) l (rw (← e) below))))
+-- The delays of a text take no guard.
+module _ (W : List ℕ) (a : Kept) {bare : Kept} (e : bare ≡ without-guard a) where
+  pub slide-whole : Whole W a → Whole W bare
+  slide-whole whole = rw e (whole-without-guard whole)
 
-  pub fits-not : l < k → Above ≡ fit-of l ss
-  unfolding fit-of fits-in
-  fits-not above = sym (pick-false _ _ (lt-leb (window-len ss) l (rw (← e) above)))
+  bare-guard : guard-of W bare ≡ []
+  bare-guard = rw e (no-guard W a)
 
-is-above : (b : Bool) (d : ℕ) → pick b (Delays d) Above ≡ Above → b ≡ false
-unfolding pick
-is-above true d e = absurd (let z : _≡_ {A = ℕ} 0 1 = cc in omega arith)
-is-above false d e = refl
+  module _ (r : ℕ) {d : ℕ} (some : d ≡ 0 → ⊥) {at u v : ℕ} {o o₁ o₂ : List ℕ} (x : Wrote o o₁ at u (kept-text W a))
+      (y : Wrote o₁ o₂ u v (store-word seq r ∷ [])) where
+    pub slide-rest-room : at + length (slide-store-words W a r d) ≤ length o
+        → v + length (delay-store-words (guard-of W bare) (r + 1) (d - 1) (register-word (r + 1 - 1) ∷ guard-of W bare)) ≤ length o₂
+    slide-rest-room h = rw bare-guard (fixed-rest-room [] r (kept-text W a) some h x y)
 
-is-delays : (b : Bool) (c d : ℕ) → pick b (Delays c) Above ≡ Delays d → (b ≡ true) × (d ≡ c)
-unfolding pick
-is-delays true c d e = (refl, cc)
-is-delays false c d e = absurd (let z : _≡_ {A = ℕ} 0 1 = cc in omega arith)
-
--- An alternative that does not fit takes nothing.
-module _ (l : ℕ) (ss : List SeqStep) {f : Fit} (e : f ≡ fit-of l ss) (above : f ≡ Above) where
-  pub not-in : fits-in l ss ≡ false
-  unfolding fit-of
-  not-in = is-above (fits-in l ss) (further l ss) (sym e ∙ above)
-
-  pub skipped-registers : 0 ≡ taken-registers l ss
-  unfolding taken-registers
-  skipped-registers = sym (pick-false _ _ not-in)
-
-  pub skipped-stores : (n : ℕ) (o : List ℕ) (at : ℕ) → Wrote o o at at (taken-stores l ss n)
-  unfolding taken-stores
-  skipped-stores n o at = same-words (sym (pick-false _ _ not-in)) (nothing-written o at)
-
-  pub skipped-text : (before : ℕ) (match-2 : List ℕ) (n : ℕ) (o : List ℕ) (at : ℕ) → Wrote o o at at (taken-text before l match-2 ss n)
-  unfolding taken-text
-  skipped-text before match-2 n o at = same-words (sym (pick-false _ _ not-in)) (nothing-written o at)
-
--- One that fits takes its own registers and l - k further ones.
-module _ (l : ℕ) (ss : List SeqStep) {f : Fit} {d : ℕ} (e : f ≡ fit-of l ss) (delays : f ≡ Delays d) where
-  pub is-in : fits-in l ss ≡ true
-  unfolding fit-of
-  is-in = is-delays (fits-in l ss) (further l ss) d (sym e ∙ delays) .0
-
-  pub further-is : d ≡ further l ss
-  unfolding fit-of
-  further-is = is-delays (fits-in l ss) (further l ss) d (sym e ∙ delays) .1
-
-  registers-are : taken-registers l ss ≡ registers-in ss + d
-  unfolding taken-registers pair-registers
-  registers-are = pick-true _ _ is-in ∙ rw (← further-is) refl
-
-  stores-are : (n : ℕ) → taken-stores l ss n ≡ stores-in ss n ++ delay-store-words [] (n + registers-in ss) d (text-in ss n)
-  unfolding taken-stores pair-stores
-  stores-are n = pick-true _ _ is-in ∙ rw (← further-is) refl
-
-  text-is : (before : ℕ) (match-2 : List ℕ) (n : ℕ)
-      → taken-text before l match-2 ss n ≡ match-2 ++ ((text-in ss n ++ delay-texts (n + registers-in ss) d) ++ (word 7 0 ∷ joining before))
-  unfolding taken-text pair-text
-  text-is before match-2 n = pick-true _ _ is-in ∙ rw (← further-is) (simp append-assoc)
-
-  module _ (n : ℕ) (small : n + taken-registers l ss ≤ 65536) where
-    pub own-registers-small : n + registers-in ss ≤ 65536
-    own-registers-small = omega (arith, registers-are)
-
-    pub further-fits : Fits w32 d
-    further-fits = omega (arith, registers-are)
-
-    pub all-registers-small : n + registers-in ss + d ≤ 65536
-    all-registers-small = omega (arith, registers-are)
-
-    module _ {own : ℕ} (q : own ≡ registers-in ss) where
-      pub own-fits : Fits w32 own
-      own-fits = omega (arith, registers-are)
-
-      pub next-register-fits : Fits w32 (n + own)
-      next-register-fits = omega (arith, registers-are)
-
-      pub further-small : n + own + d ≤ 65536
-      further-small = omega (arith, registers-are)
-
-  module _ {own : ℕ} (q : own ≡ registers-in ss) where
-    module _ (window : l ≤ 281474976710656) (low : own ≤ 562949953421312) where
-      delays-low : d ≤ l
-      unfolding further
-      delays-low = omega (arith, further-is)
-
-      pub taken-registers-fit : Fits w64 (own + d)
-      taken-registers-fit = omega (arith, delays-low)
-
-      pub taken-registers-low : own + d ≤ 844424930131968
-      taken-registers-low = omega (arith, delays-low)
-
-    pub taken-registers-are : own + d ≡ taken-registers l ss
-    taken-registers-are = omega (arith, registers-are)
-
-    module _ (n : ℕ) where
-      stores-with : taken-stores l ss n ≡ stores-in ss n ++ delay-store-words [] (n + own) d (text-in ss n)
-      stores-with = stores-are n ∙ rw q refl
-
-      stores-long : length (taken-stores l ss n) ≡ length (stores-in ss n) + length (delay-store-words [] (n + own) d (text-in ss n))
-      stores-long = ap length stores-with ∙ length-append (stores-in ss n) _
-
-      module _ (at : ℕ) (o : List ℕ) (room : at + length (taken-stores l ss n) ≤ length o) where
-        pub own-stores-room : at + length (stores-in ss n) ≤ length o
-        own-stores-room = omega (arith, stores-long)
-
-        pub slide-stores-room : {a : ℕ} {o₁ : List ℕ} → Wrote o o₁ at a (stores-in ss n)
-            → a + length (delay-store-words [] (n + own) d (text-in ss n)) ≤ length o₁
-        slide-stores-room w = omega (arith, stores-long, w .ends, still-long w)
-
-      pub pair-stores-done : {at a p : ℕ} {o o₁ o₂ : List ℕ} → Wrote o o₁ at a (stores-in ss n)
-          → Wrote o₁ o₂ a p (delay-store-words [] (n + own) d (text-in ss n)) → Wrote o o₂ at p (taken-stores l ss n)
-      pair-stores-done w x = same-words (sym stores-with) (last (go (stores-in ss n) _ (begin _ _ _) w) x)
-
-  module _ (before : ℕ) (match-2 : List ℕ) (n : ℕ) where
-    abbrev slid : List ℕ
-    slid = text-in ss n ++ delay-texts (n + registers-in ss) d
-
-    text-long : length (taken-text before l match-2 ss n) ≡ length match-2 + (length slid + length (word 7 0 ∷ joining before))
-    text-long = ap length (text-is before match-2 n) ∙ length-append match-2 _ ∙ ap (λ (m : ℕ). length match-2 + m) (length-append slid _)
-
-    module _ (at : ℕ) (o : List ℕ) (room : at + length (taken-text before l match-2 ss n) ≤ length o) where
-      pub seq2-text-room : at + length match-2 ≤ length o
-      seq2-text-room = omega (arith, text-long)
-
-      module _ {a : ℕ} {o₁ : List ℕ} (w : Wrote o o₁ at a match-2) where
-        pub seq1-text-room : a + length (text-in ss n ++ delay-texts (n + registers-in ss) d) ≤ length o₁
-        seq1-text-room = omega (arith, text-long, w .ends, still-long w)
-
-        pub closing-room : {b : ℕ} {o₂ : List ℕ} → Wrote o₁ o₂ a b (text-in ss n ++ delay-texts (n + registers-in ss) d)
-            → b + length (word 7 0 ∷ joining before) ≤ length o₂
-        closing-room x = omega (arith, text-long, w .ends, still-long w, x .ends, still-long x)
-
-    pub pair-text-done : {at a b p : ℕ} {o o₁ o₂ o₃ : List ℕ} → Wrote o o₁ at a match-2
-        → Wrote o₁ o₂ a b (text-in ss n ++ delay-texts (n + registers-in ss) d) → Wrote o₂ o₃ b p (word 7 0 ∷ joining before)
-        → Wrote o o₃ at p (taken-text before l match-2 ss n)
-    pair-text-done w x y = same-words (sym (text-is before match-2 n)) (last (go slid _ (go match-2 _ (begin _ _ _) w) x) y)
+    pub slide-done : {p : ℕ} {o₃ : List ℕ} → Wrote o₂ o₃ v p (delay-store-words (guard-of W bare) (r + 1) (d - 1) (register-word (r + 1 - 1) ∷ guard-of W bare))
+        → Wrote o o₃ at p (slide-store-words W a r d)
+    slide-done z = fixed-done [] r (kept-text W a) some x y (rw bare-guard at z)
 
 -- The text of an alternative with the registers behind its own ORed to it.
-module _ (ss : List SeqStep) (n d : ℕ) {own : ℕ} (q : own ≡ registers-in ss) where
-  module _ (small : n + registers-in ss + d ≤ 65536) where
-    pub slid-own-small : n + registers-in ss ≤ 65536
-    slid-own-small = omega arith
+module _ (W : List ℕ) (a : Kept) (r d : ℕ) where
+  pub slid-text-room : (at : ℕ) {n : ℕ} → at + length (slid-text-words W a r d) ≤ n → at + length (kept-text W a) ≤ n
+  slid-text-room at h = first-room at (kept-text W a) (delay-texts r d) refl h
 
-    pub slid-further-small : n + own + d ≤ 65536
-    slid-further-small = omega arith
+  pub slid-ored-room : {at u : ℕ} {o o₁ : List ℕ} → at + length (slid-text-words W a r d) ≤ length o → Wrote o o₁ at u (kept-text W a) → u + 2 * d ≤ length o₁
+  slid-ored-room h x = omega (arith, second-room (kept-text W a) (delay-texts r d) refl h x, length-ored r d)
 
-  slid-long : length (text-in ss n ++ delay-texts (n + registers-in ss) d) ≡ length (text-in ss n) + 2 * d
-  slid-long = length-append (text-in ss n) _ ∙ omega (arith, length-ored (n + registers-in ss) d)
-
-  module _ (at : ℕ) (o : List ℕ) (room : at + length (text-in ss n ++ delay-texts (n + registers-in ss) d) ≤ length o) where
-    pub slid-first-room : at + length (text-in ss n) ≤ length o
-    slid-first-room = omega (arith, slid-long)
-
-    pub slid-ored-room : {a : ℕ} {o₁ : List ℕ} → Wrote o o₁ at a (text-in ss n) → a + 2 * d ≤ length o₁
-    slid-ored-room w = omega (arith, slid-long, w .ends, still-long w)
-
-  pub slid-done : {at a p : ℕ} {o o₁ o₂ : List ℕ} → Wrote o o₁ at a (text-in ss n) → Wrote o₁ o₂ a p (delay-texts (n + own) d)
-      → Wrote o o₂ at p (text-in ss n ++ delay-texts (n + registers-in ss) d)
-  slid-done w x = last (go (text-in ss n) _ (begin _ _ _) w) (rw q at x)
+  pub slid-done : {at u p : ℕ} {o o₁ o₂ : List ℕ} → Wrote o o₁ at u (kept-text W a) → Wrote o₁ o₂ u p (delay-texts r d) → Wrote o o₂ at p (slid-text-words W a r d)
+  slid-done x y = both-done refl x y
 
 -- The end of a pair's text.
 module _ (before : ℕ) where
-  pub joins-none : {at a : ℕ} {o o₁ : List ℕ} → before ≡ 0 → Wrote o o₁ at a (word 7 0 ∷ []) → Wrote o o₁ at a (word 7 0 ∷ joining before)
+  pub joins-none : {at u : ℕ} {o o₁ : List ℕ} → before ≡ 0 → Wrote o o₁ at u (and-word ∷ []) → Wrote o o₁ at u (and-word ∷ joining before)
   unfolding joining
-  joins-none e w = same-words (ap (λ (ws : List ℕ). word 7 0 ∷ ws) (sym (pick-true _ _ (eq-eqb before 0 e)))) w
+  joins-none e x = same-words (ap (λ (ws : List ℕ). and-word ∷ ws) (sym (pick-true _ _ (eq-eqb before 0 e)))) x
 
   module _ (some : before ≡ 0 → ⊥) where
-    joins-one : joining before ≡ word 8 0 ∷ []
+    joins-one : and-word ∷ joining before ≡ (and-word ∷ []) ++ (or-word ∷ [])
     unfolding joining
-    joins-one = pick-false _ _ (ne-eqb before 0 some)
+    joins-one = ap (λ (ws : List ℕ). and-word ∷ ws) (pick-false _ _ (ne-eqb before 0 some))
 
-    pub joining-room : (at : ℕ) {a : ℕ} {o o₁ : List ℕ} → at + length (word 7 0 ∷ joining before) ≤ length o → Wrote o o₁ at a (word 7 0 ∷ []) → a < length o₁
-    joining-room at room w = omega (arith, ap length joins-one, w .ends, still-long w)
+    pub joining-room : {at u : ℕ} {o o₁ : List ℕ} → at + length (and-word ∷ joining before) ≤ length o → Wrote o o₁ at u (and-word ∷ []) → u < length o₁
+    joining-room h x = omega (arith, second-room (and-word ∷ []) (or-word ∷ []) joins-one h x)
 
-    pub joined-done : {at a p : ℕ} {o o₁ o₂ : List ℕ} → Wrote o o₁ at a (word 7 0 ∷ []) → Wrote o₁ o₂ a p (word 8 0 ∷ [])
-        → Wrote o o₂ at p (word 7 0 ∷ joining before)
-    joined-done w x = last (go (word 7 0 ∷ []) _ (begin _ _ _) w) (same-words (sym joins-one) x)
+    pub joined-done : {at u p : ℕ} {o o₁ o₂ : List ℕ} → Wrote o o₁ at u (and-word ∷ []) → Wrote o₁ o₂ u p (or-word ∷ []) → Wrote o o₂ at p (and-word ∷ joining before)
+    joined-done x y = both-done joins-one x y
 
--- The front of a slice is as long as it is cut.
-pub front-length : (place end : ℕ) (work : List ℕ) → place ≤ end → end ≤ length work → place ≡ length (take place work)
-front-length place end work before inside = sym (length-take-le place work (omega arith))
+-- A kept pair, whose delays begin with r: its registers are small enough for words.
+module _ {W : List ℕ} {pair : Pair} (P : PlacedPair W pair) where
+  pub pair-delays-fit : Fits w32 (pair .delays)
+  unfolding kept-pair-registers
+  pair-delays-fit = omega (arith, P .few)
+
+  module _ {r : ℕ} (e : r ≡ first-delay W pair) where
+    pub pair-next-fits : Fits w32 (r + pair .delays)
+    unfolding kept-pair-registers
+    pair-next-fits = omega (arith, P .few)
+
+    pub pair-slid : Slid W (pair .one) r (pair .delays)
+    unfolding kept-pair-registers
+    pair-slid = record { ended = record { placed = P .placed; behind = e }; few = omega (arith, P .few) }
+
+-- Its assignments: those of seq1's alternative, then of its delays.
+module _ (W : List ℕ) (pair : Pair) where
+  pub own-stores-room : (at : ℕ) {n : ℕ} → at + length (kept-pair-stores W pair) ≤ n → at + length (alternative-store-words W (pair .one)) ≤ n
+  unfolding kept-pair-stores
+  own-stores-room at h = first-room at (alternative-store-words W (pair .one)) _ refl h
+
+  module _ {r : ℕ} (e : r ≡ first-delay W pair) where
+    pub slide-stores-room : {at u : ℕ} {o o₁ : List ℕ} → at + length (kept-pair-stores W pair) ≤ length o → Wrote o o₁ at u (alternative-store-words W (pair .one))
+        → u + length (slide-store-words W (pair .one) r (pair .delays)) ≤ length o₁
+    unfolding kept-pair-stores
+    slide-stores-room h x = rw e (second-room (alternative-store-words W (pair .one)) _ refl h x)
+
+    next-register : r + pair .delays ≡ pair .one .register + kept-pair-registers W pair
+    unfolding kept-pair-registers
+    next-register = omega (arith, e)
+
+    pub pair-stores-done : {at u p : ℕ} {o o₁ o₂ : List ℕ} → Wrote o o₁ at u (alternative-store-words W (pair .one))
+        → Wrote o₁ o₂ u p (slide-store-words W (pair .one) r (pair .delays))
+        → Marked o o₂ at (record { place = p; register = r + pair .delays }) (kept-pair-stores W pair) (pair .one .register + kept-pair-registers W pair)
+    unfolding kept-pair-stores
+    pair-stores-done x y = record { wrote = both-done refl x (rw e at y); next = next-register }
+
+    -- Its text: that of seq2's alternative, of seq1's with its delays, and what closes it.
+    module _ (before : ℕ) where
+      module _ (at : ℕ) (o : List ℕ) (h : at + length (kept-pair-text W pair before) ≤ length o) {u : ℕ} {o₁ : List ℕ} (x : Wrote o o₁ at u (kept-text W (pair .two))) where
+        pub one-text-room : u + length (slid-text-words W (pair .one) r (pair .delays)) ≤ length o₁
+        unfolding kept-pair-text
+        one-text-room =
+            rw e (first-room u (slid-text-words W (pair .one) _ (pair .delays)) (and-word ∷ joining before) refl (second-room (kept-text W (pair .two)) _ refl h x))
+
+        pub closing-room : {v : ℕ} {o₂ : List ℕ} → Wrote o₁ o₂ u v (slid-text-words W (pair .one) r (pair .delays)) → v + length (and-word ∷ joining before) ≤ length o₂
+        unfolding kept-pair-text
+        closing-room y = third-room (kept-text W (pair .two)) (slid-text-words W (pair .one) _ (pair .delays)) (and-word ∷ joining before) refl h x (rw e at y)
+
+      pub pair-text-done : {at u v p : ℕ} {o o₁ o₂ o₃ : List ℕ} → Wrote o o₁ at u (kept-text W (pair .two))
+          → Wrote o₁ o₂ u v (slid-text-words W (pair .one) r (pair .delays)) → Wrote o₂ o₃ v p (and-word ∷ joining before)
+          → Marked o o₃ at (record { place = p; register = r + pair .delays }) (kept-pair-text W pair before) (pair .one .register + kept-pair-registers W pair)
+      unfolding kept-pair-text
+      pair-text-done x y z = record { wrote = three-done refl x (rw e at y) z; next = next-register }
+
+  pub two-text-room : (before at : ℕ) {n : ℕ} → at + length (kept-pair-text W pair before) ≤ n → at + length (kept-text W (pair .two)) ≤ n
+  unfolding kept-pair-text
+  two-text-room before at h = first-room at (kept-text W (pair .two)) _ refl h
+
+-- What is kept of a pair is the pair of the alternative y of seq1, whose registers begin with r.
+module _ {W : List ℕ} (pair : Pair) {y : SeqAlt} {r : ℕ} (H : Holds W (pair .one) y r) where
+  abbrev fits : Fitted
+  fits = record { alternative = y; delays = pair .delays }
+
+  pub registers-of-pair : kept-pair-registers W pair ≡ pair-registers fits
+  unfolding kept-pair-registers pair-registers
+  registers-of-pair = ap (λ (k : ℕ). k + pair .delays) (kept-registers H)
+
+  delays-begin : first-delay W pair ≡ r + registers-in y
+  delays-begin = omega (arith, H .register, kept-registers H)
+
+  pub stores-of-pair : kept-pair-stores W pair ≡ pair-stores fits r
+  unfolding kept-pair-stores pair-stores
+  stores-of-pair = rw (kept-stores H, kept-texts H, delays-begin) refl
+
+  pub text-of-pair : (before : ℕ) → kept-pair-text W pair before ≡ pair-text before (kept-text W (pair .two)) fits r
+  unfolding kept-pair-text pair-text
+  text-of-pair before = rw (kept-texts H, delays-begin) refl
+
+  pub placed-pair : r + pair-registers fits ≤ 65536 → PlacedPair W pair
+  unfolding pair-registers
+  placed-pair small = record { placed = placed H (omega arith); few = omega (arith, H .register, registers-of-pair) }

@@ -1,75 +1,62 @@
--- The sizes of one alternative that stands in a slice, and of a pair, as the code meets them.
-use mathlib.Core.Path.{_≡_, sym, ap, ap₂, _∙_}
-use mathlib.Core.List.{List, []}
-use Prim.Native.Nat.{ℕ, _+_, _*_, _-_, _≤_}
+-- The words of a pair have the sizes that are counted, from any register on, and what is counted fits into 64 bits.
+use mathlib.Core.Path.{_≡_, refl, ap, ap₂, _∙_}
+use mathlib.Core.List.{List, [], _∷_, _++_}
+use Prim.Native.Nat.{ℕ, _+_, _*_, _≤_, _<_}
 use native.Mathlib.Omega.{arith}
 use mir.Val.{Fits}
 use mir.Syntax.{w64}
-use lib.ListN.{length}
-use Rattle.words.specs.Choice.{pick-true, pick-false}
-use Rattle.meaning.specs.declared.SeqStep.{SeqStep}
-use Rattle.sizes.specs.Sizes.{size-up-to-step, Countable, delays-size}
+use lib.ListN.{length, length-append}
+use Rattle.meaning.specs.Alternative.{SeqAlt}
+use Rattle.step_text.specs.Text.{and-word}
+use Rattle.sizes.specs.Sizes.{delays-size, most-store-words, most-words}
 use Rattle.sizes.specs.declared.Size.{Size}
-use Rattle.sizes.proofs.Laws.{delays-small, text-small, stores-small}
-use Rattle.sizes.proofs.Lengths.{the-text-has-its-size, the-stores-have-their-size}
-use Rattle.pair.specs.Stored.{count-in, steps-in, Kept}
-use Rattle.pair.specs.declared.Fit.{Fit}
-use Rattle.pair.specs.declared.Fit.the-variants.{Delays, Above}
-use Rattle.pair.specs.Pairs.{registers-in, fit-of, taken-registers}
-use Rattle.pair.specs.Sizes.{size, size-in, pair-size, taken-size}
-use Rattle.pair.proofs.Alternatives.{registers-are, stores-are, text-is}
-use Rattle.pair.proofs.Pairs.{not-in, is-in, further-is, own-registers-small, all-registers-small}
+use Rattle.sizes.proofs.Laws.{delays-small}
+use Rattle.sizes.proofs.Lengths.{delays-length}
+use Rattle.term.specs.declared.Kept.{Kept}
+use Rattle.alternative.specs.Alternatives.{registers-in, stores-in, text-in}
+use Rattle.alternative.specs.Keeping.{Holds, kept-size}
+use Rattle.alternative.proofs.Laws.{kept-stores, kept-texts, as-long-stores, as-long-a-text}
+use Rattle.pair.specs.Pairs.{Fitted, delay-texts, joining, pair-stores, pair-text}
+use Rattle.pair.specs.Sizes.{size, size-in, pair-size-of, pair-size, longest-text}
+use Rattle.pair.proofs.Delays.{length-ored}
 
--- One alternative that stands in a slice.
-module _ {words : List ℕ} (K : Kept words) where
-  pub countable : registers-in (steps-in words) ≤ 65536 → Countable words [] (count-in words)
-  countable small = record {
-    some = K .some;
-    inside = omega (arith, K .whole);
-    many = K .many;
-    registers = omega (arith, registers-are K);
-    short = omega arith;
-  }
-
-  sizes-are : size-up-to-step words 0 (count-in words - 1) ≡ size-in (steps-in words)
-  unfolding size-in
-  sizes-are =
-      let text = the-text-has-its-size words [] (count-in words - 1) _ in
-      let stores = the-stores-have-their-size words [] (count-in words) 0 in
-      ap₂ size (sym (ap length (text-is K 0) ∙ text)) (sym (ap length (stores-are K 0) ∙ stores))
-
-  module _ {z : Size} (e : z ≡ size-up-to-step words 0 (count-in words - 1)) where
-    pub size-counted : z ≡ size-in (steps-in words)
-    size-counted = e ∙ sizes-are
-
-    pub text-low : z .text ≤ 1048576
-    text-low = rw e (omega (arith, text-small words 0 (count-in words - 1), K .many, K .some))
-
-    pub stores-low : registers-in (steps-in words) ≤ 65536 → z .stores ≤ 9007199254740992
-    stores-low small = rw e (omega (arith, stores-small (countable small) (count-in words - 1) (omega (arith, K .some)), K .many, K .some))
-
--- The assignments of an alternative and of its delays, counted together.
-module _ (stores text : ℕ) {d z : ℕ} (e : z ≡ delays-size 0 d text) (few : d ≤ 65536) (short : text ≤ 1048576) (low : stores ≤ 9007199254740992) where
-  pub delayed-stores-fit : Fits w64 (stores + z)
-  delayed-stores-fit = omega (arith, delays-small 0 d text (omega arith) few)
-
-  pub delayed-stores-small : stores + z ≤ 18014398509481984
-  delayed-stores-small = omega (arith, delays-small 0 d text (omega arith) few)
+-- One alternative.
+pub size-of-kept : {W : List ℕ} {a : Kept} {y : SeqAlt} → Holds W a y 0 → kept-size W a ≡ size-in y
+unfolding kept-size size-in
+size-of-kept H = rw (kept-texts H, kept-stores H) refl
 
 -- A pair.
-module _ (l two : ℕ) (ss : List SeqStep) {f : Fit} (e : f ≡ fit-of l ss) where
-  pub skipped-size : f ≡ Above → size 0 0 ≡ taken-size l two ss
-  unfolding taken-size
-  skipped-size above = sym (pick-false _ _ (not-in l ss e above))
+pub length-pair-stores : (two : ℕ) (f : Fitted) (r : ℕ) → length (pair-stores f r) ≡ pair-size two f .stores
+unfolding pair-stores pair-size-of size-in
+length-pair-stores two f r =
+    let y = f .alternative in
+    length-append (stores-in y r) _
+    ∙ ap₂ (λ (i j : ℕ). i + j) (as-long-stores y r)
+    (delays-length [] (r + registers-in y) (f .delays) (text-in y r) ∙ ap (delays-size 0 (f .delays)) (as-long-a-text y r))
 
-  module _ {d : ℕ} (delays : f ≡ Delays d) where
-    pub taken-own-small : taken-registers l ss ≤ 65536 → registers-in ss ≤ 65536
-    taken-own-small small = omega (arith, own-registers-small l ss e delays 0 (omega arith))
+pub length-pair-text : (before : ℕ) (match-2 : List ℕ) (f : Fitted) (r : ℕ)
+    → length (pair-text before match-2 f r) + 1 ≡ pair-size (length match-2) f .text + length (joining before)
+unfolding pair-text pair-size-of size-in
+length-pair-text before match-2 f r =
+    let y = f .alternative in
+    let slid = text-in y r ++ delay-texts (r + registers-in y) (f .delays) in
+    omega (
+      arith,
+      length-append match-2 (slid ++ (and-word ∷ joining before)),
+      length-append slid (and-word ∷ joining before),
+      length-append (text-in y r) (delay-texts (r + registers-in y) (f .delays)),
+      length-ored (r + registers-in y) (f .delays),
+      as-long-a-text y r,
+    )
 
-    pub taken-further-small : taken-registers l ss ≤ 65536 → d ≤ 65536
-    taken-further-small small = omega (arith, all-registers-small l ss e delays 0 (omega arith))
+pub two-words-more : (two : ℕ) (f : Fitted) → 2 ≤ pair-size two f .text
+unfolding pair-size-of
+two-words-more two f = omega arith
 
-    pub taken-size-are : {own z : Size} → own ≡ size-in ss → z ≡ size (two + (own .text + (2 * d + 2))) (own .stores + delays-size 0 d (own .text))
-        → z ≡ taken-size l two ss
-    unfolding taken-size pair-size
-    taken-size-are g q = q ∙ rw (g, further-is l ss e delays) (sym (pick-true _ _ (is-in l ss e delays)))
+-- The assignments of an alternative and of its delays, counted together.
+module _ (own : Size) {d z : ℕ} (e : z ≡ delays-size 0 d (own .text)) (few : d ≤ 65536) (short : own .text ≤ longest-text) (low : own .stores ≤ most-store-words) where
+  pub delayed-stores-fit : Fits w64 (own .stores + z)
+  delayed-stores-fit = omega (arith, delays-small 0 d (own .text) (omega arith) few)
+
+  pub delayed-stores-small : own .stores + z ≤ most-words
+  delayed-stores-small = omega (arith, delays-small 0 d (own .text) (omega arith) few)

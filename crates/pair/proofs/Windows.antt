@@ -1,4 +1,4 @@
--- The sum of an alternative's hops, step by step, and whether its window fits into another's.
+-- The sum of a kept alternative's hops, step by step.
 use mathlib.Core.Path.{_≡_, refl, ap, _∙_}
 use mathlib.Core.List.{List}
 use Prim.Native.Nat.{ℕ, suc, _+_, _*_, _-_, _<_, _≤_}
@@ -6,43 +6,43 @@ use native.Mathlib.Numerals.{add-one}
 use native.Mathlib.Omega.{arith}
 use Rattle.meaning.specs.Root.{hop-length, hop-sum, window-len}
 use Rattle.meaning.specs.declared.SeqStep.{SeqStep}
-use Rattle.term.specs.Steps.{nth-step, steps-from}
-use Rattle.pair.specs.Stored.{count-in, steps-in, Kept}
+use Rattle.term.specs.declared.Kept.{Kept}
+use Rattle.term.specs.Keeping.{step-of, steps-from, steps-of, Whole}
 
 -- The hops before the k-th step are summed, and those from it on are left.
-pub record Windowing (words : List ℕ) (total k : ℕ) : Type 0 where
+pub record Windowing (W : List ℕ) (a : Kept) (total k : ℕ) : Type 0 where
   pub begun : 1 ≤ k
-  pub turn : k ≤ count-in words
+  pub turn : k ≤ a .steps
   pub low : total ≤ 1 + k * 4294967295
-  pub rest : window-len (steps-in words) ≡ total + hop-sum (steps-from words k (count-in words - k))
+  pub rest : window-len (steps-of W a) ≡ total + hop-sum (steps-from W a k (a .steps - k))
 
-pub windowing-begins : {words : List ℕ} → Kept words → Windowing words 1 1
-unfolding steps-in steps-from
-windowing-begins {words} K =
-    let e : count-in words ≡ suc (count-in words - 1) = omega (arith, K .some) in
+pub windowing-begins : {W : List ℕ} {a : Kept} → Whole W a → Windowing W a 1 1
+unfolding steps-from
+windowing-begins {W} {a} whole =
+    let e : a .steps ≡ suc (a .steps - 1) = omega (arith, whole .some) in
     record {
       begun = omega arith;
-      turn = K .some;
+      turn = whole .some;
       low = omega arith;
-      rest = ap (λ (c : ℕ). window-len (steps-from words 0 c)) e ∙ omega arith;
+      rest = ap (λ (c : ℕ). window-len (steps-from W a 0 c)) e ∙ omega arith;
     }
 
-pub windowing-on : {words : List ℕ} {total k d : ℕ} {s : SeqStep} → Windowing words total k → k < count-in words → s ≡ nth-step words k → d ≡ hop-length (s .hop)
-    → d ≤ 4294967295 → Windowing words (total + d) (k + 1)
+pub windowing-on : {W : List ℕ} {a : Kept} {total k d : ℕ} {s : SeqStep} → Windowing W a total k → k < a .steps → s ≡ step-of W a k → d ≡ hop-length (s .hop)
+    → d ≤ 4294967295 → Windowing W a (total + d) (k + 1)
 unfolding steps-from
-windowing-on {words} {total} {k} {d} {s} w h e q small = record {
+windowing-on {W} {a} {total} {k} {d} {s} w h e q small = record {
   begun = omega arith;
   turn = omega arith;
   low = omega (arith, w .low);
   rest =
-      let f : count-in words - k ≡ suc (count-in words - (k + 1)) = omega arith in
-      let g : d ≡ hop-length (nth-step words k .hop) = q ∙ ap (λ (x : SeqStep). hop-length (x .hop)) e in
+      let f : a .steps - k ≡ suc (a .steps - (k + 1)) = omega arith in
+      let g : d ≡ hop-length (step-of W a k .hop) = q ∙ ap (λ (x : SeqStep). hop-length (x .hop)) e in
       w .rest ∙ rw (f, add-one k) (omega (arith, g));
 }
 
-pub windowing-ends : {words : List ℕ} {total k : ℕ} → Windowing words total k → count-in words ≤ k → total ≡ window-len (steps-in words)
+pub windowing-ends : {W : List ℕ} {a : Kept} {total k : ℕ} → Windowing W a total k → a .steps ≤ k → total ≡ window-len (steps-of W a)
 unfolding steps-from
-windowing-ends {words} {total} {k} w h =
-    let f : count-in words - k ≡ 0 = omega arith in
-    let g : hop-sum (steps-from words k (count-in words - k)) ≡ 0 = rw f refl in
+windowing-ends {W} {a} {total} {k} w h =
+    let f : a .steps - k ≡ 0 = omega arith in
+    let g : hop-sum (steps-from W a k (a .steps - k)) ≡ 0 = rw f refl in
     omega (arith, w .rest, g)

@@ -5,6 +5,6 @@ use Rattle.words.specs.Choice.{pick}
 use Rattle.meaning.specs.Refusals.{fixed-from-1}
 use Rattle.meaning.specs.declared.SeqHop.{SeqHop}
 
--- 12: "Empty after, or followed by, a hop that is not fixed >= 1", of one hop between two terms.
+-- 12: "the hop to it or from it is not a fixed one of at least 1", of one hop between two terms.
 unfoldable pub hop-fits : Bool → Bool → SeqHop → Bool
 hop-fits before after h = pick before (fixed-from-1 h) (pick after (fixed-from-1 h) true)

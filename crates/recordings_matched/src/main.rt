@@ -4,7 +4,7 @@
 // The file `stdin` has a case's name, and below it decimal numbers with blanks between them: the width of a row, the bytes of answers and
 // of work that are lent, at most 512 and 262,144, and the tree's words, five a node; then a bar, and behind it the rows, a digit a byte,
 // at most 1,024. Empty lines and lines that begin with # are skipped. The file `stdout` has the name, and `ok` with the ticks and below it
-// the answers, a digit a tick, or `refused` with number and place. The answers there were worked out from 01's "What a match is", as sets
+// the answers, a digit a tick, or `refused` with number and place. The answers there were worked out from SPECIFICATION, "What a match is", as sets
 // of runs. What is lent is filled before, and a line more says what is not as promised afterwards.
 //
 // Example: `a ##1 b` and below it `2 2 27  1 0 0 0 0  1 1 0 0 0  2 0 1 1 1 | 10 01` print the name, `ok 2` and `01`, a line each.
@@ -140,7 +140,7 @@ fn replay_case(line: &[u8], rows: &mut [u8], answers: &mut [u8], work: &mut [u8]
     );
 }
 
-// The same, with work for 64 nodes over 63 ticks, or for three over 256.
+// A case, with work for 64 nodes over 63 ticks, or for three over 256.
 fn replay_filled(line: &[u8]) {
     let mut rows = [0u8; 1024];
     let mut answers = [FILLED; 512];

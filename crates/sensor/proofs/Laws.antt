@@ -6,13 +6,12 @@ use mathlib.Core.List.{List, [], _∷_, _++_}
 use Prim.Native.Nat.{ℕ, zero, suc, _+_, _-_, _/_, _≤_, _<_}
 use native.Mathlib.Omega.{arith}
 use lib.Dec.{eqb, leb}
-use lib.ListN.{length, set, take, length-set}
+use lib.ListN.{length, set, take}
 use borrow.Author.Tests.{eq-eqb, ne-eqb, not-true, not-false}
 use Rattle.words.specs.Choice.{pick, pick-true, pick-false}
 use Rattle.words.specs.Written.{written, Wrote}
 use Rattle.words.proofs.Laws.{Going, begin, go, done, still-long, nothing-written}
 use Rattle.correction.specs.Map.{entry-of}
-use Rattle.correction.specs.Picture.{corrected}
 use Rattle.correction.proofs.Frame.{one-equation}
 use Rattle.sensor.specs.Sensor.{sky-at, single-at, cluster-at, defective-at, reads-at, expected-at}
 use Rattle.sensor.specs.Maps.{has-entry, entry-for, row-entries, entries-from, as-fit}
@@ -30,12 +29,12 @@ module _ (row column : ℕ) {b : Bool} where
   unfolding reads-at
   by-defect e q = q ∙ rw e refl
 
--- What is to leave of a pixel: the sky where the sensor is not defective ..
+-- Where the sensor is not defective, the sky is to leave of a pixel.
 module _ (row column : ℕ) {b : Bool} (e : b ≡ defective-at row column) where
   pub sky-is-expected : {r : ℕ} → not b ≡ true → r ≡ sky-at row column → r ≡ expected-at row column
   sky-is-expected n q = q ∙ sym (one-equation defective-at sky-at row column ∙ pick-false _ _ (sym e ∙ not-true b n))
 
-  -- .. and in a defect what its neighbours give.
+  -- In a defect, what the pixel's neighbours give is to leave.
   module _ (n : not b ≡ false) where
     in-a-defect : expected-at row column
         ≡ pick (eqb column 0) (pick (eqb row 0) 0 (expected-at (row - 1) column))
@@ -110,7 +109,7 @@ module _ (loaded : Loaded) (map : List ℕ) (place row column : ℕ) {b : Bool} 
       rw (pick-true (entry-of row column ∷ []) [] (sym e ∙ not-false b n), k) (ap (λ (l : List ℕ). entry-of row column ∷ l) (take-none (length map - (place + 1)))) in
       rw one (record { holds = rw q refl; ends = refl })
 
--- Entries put as far as there is room: to put them all it remains to put these.
+-- Entries put as far as there is room: to put all entries it remains to put those that are left.
 pub record Filling (map : List ℕ) (place : ℕ) (entries map′ : List ℕ) (next : ℕ) (left : List ℕ) : Type 0 where
   pub inside : next ≤ length map′
   pub going : Going map place (as-fit map place entries) map′ next (as-fit map′ next left)

@@ -11,10 +11,35 @@ use Rattle.meaning.specs.declared.SeqTerm.the-variants.{Bool as BoolTerm, Goto,
 use Rattle.meaning.specs.declared.SeqHop.{SeqHop}
 use Rattle.meaning.specs.declared.SeqHop.the-variants.{Fixed, AtLeast}
 use Rattle.meaning.specs.declared.SeqStep.{SeqStep}
-use Rattle.term.specs.Steps.{nth-step}
+use Rattle.term.specs.declared.Kept.{Kept}
+use Rattle.term.specs.Keeping.{step-of, guard-of, Whole}
 use Rattle.step_text.specs.Text.{reach}
 use Rattle.current.specs.Text.{registers-before}
 use Rattle.sizes.specs.declared.Size.{Size}
+
+-- Bounds that keep the sums within 64 bits, each a power of two. A guard: at most 65,536 atoms, three words each, its `and` among them.
+abbrev pub most-guard-words : ℕ
+most-guard-words = 1048576
+
+-- The text of any alternative with its guard, and that of a pair of alternatives without one.
+abbrev pub most-text-words : ℕ
+most-text-words = 4194304
+
+-- The text after a hop: the text before it, or the guard, and a few words more.
+abbrev pub most-activation-words : ℕ
+most-activation-words = 8388608
+
+-- The stores of one step: at most 65,536 registers, each with the guard and a few words, and at most four texts beside them.
+abbrev pub most-step-words : ℕ
+most-step-words = 137438953472
+
+-- The stores of an alternative: at most 65,536 steps.
+abbrev pub most-store-words : ℕ
+most-store-words = 9007199254740992
+
+-- The stores of an alternative, and its text or further delays beside them.
+abbrev pub most-words : ℕ
+most-words = 18014398509481984
 
 -- The text after a hop, after a term, and after the first term.
 unfoldable pub hop-text-size : ℕ → SeqHop → ℕ → ℕ
@@ -23,16 +48,16 @@ hop-text-size g (AtLeast m) e = pick (eqb m 0) (2 + e) 1
 
 unfoldable pub term-text-size : SeqTerm → ℕ → ℕ
 term-text-size (BoolTerm x) a = a + 3
-term-text-size (Goto b k) a = pick (ltb k 2) (a + 5) 4
-term-text-size (Nonconsec b k) a = pick (ltb k 2) (a + 11) 10
-term-text-size (ConsecAtLeast b k) a = pick (ltb k 2) (a + 5) 6
+term-text-size (Goto b count) a = pick (ltb count 2) (a + 5) 4
+term-text-size (Nonconsec b count) a = pick (ltb count 2) (a + 11) 10
+term-text-size (ConsecAtLeast b count) a = pick (ltb count 2) (a + 5) 6
 term-text-size Empty a = a
 
 unfoldable pub lead-text-size : SeqTerm → ℕ
 lead-text-size (BoolTerm x) = 2
-lead-text-size (Goto b k) = term-text-size (Goto b k) 1
-lead-text-size (Nonconsec b k) = term-text-size (Nonconsec b k) 1
-lead-text-size (ConsecAtLeast b k) = term-text-size (ConsecAtLeast b k) 1
+lead-text-size (Goto b count) = term-text-size (Goto b count) 1
+lead-text-size (Nonconsec b count) = term-text-size (Nonconsec b count) 1
+lead-text-size (ConsecAtLeast b count) = term-text-size (ConsecAtLeast b count) 1
 lead-text-size Empty = 1
 
 -- The stores of d delays, of a hop, of the machines, and of a term.
@@ -41,19 +66,19 @@ delays-size g d e = pick (eqb d 0) 0 (e + 1 + (d - 1) * (2 + g))
 
 unfoldable pub hop-stores-size : ℕ → SeqHop → ℕ → ℕ
 hop-stores-size g (Fixed d) e = delays-size g d e
-hop-stores-size g (AtLeast m) e = pick (ltb m 2) (3 + e) (delays-size 0 (m - 1) e + 4)
+hop-stores-size g (AtLeast m) e = e + 3 + (m - 1) * 2
 
 unfoldable pub goto-size : ℕ → ℕ → ℕ
-goto-size k a = pick (ltb k 2) (a + 7) (a + 7 + (a + 12) + (k - 2) * 11)
+goto-size count a = pick (ltb count 2) (a + 7) (a + 7 + (a + 12) + (count - 2) * 11)
 
-unfoldable pub run-size : ℕ → ℕ → ℕ
-run-size k a = pick (ltb k 2) (a + 6) (a + 4 + (k - 2) * 5 + 7)
+abbrev pub run-size : ℕ → ℕ → ℕ
+run-size count a = a + 6 + (count - 1) * 5
 
 unfoldable pub term-stores-size : SeqTerm → ℕ → ℕ
 term-stores-size (BoolTerm x) a = 0
-term-stores-size (Goto b k) a = goto-size k a
-term-stores-size (Nonconsec b k) a = goto-size k a + term-text-size (Nonconsec b k) a + 1
-term-stores-size (ConsecAtLeast b k) a = run-size k a
+term-stores-size (Goto b count) a = goto-size count a
+term-stores-size (Nonconsec b count) a = goto-size count a + term-text-size (Nonconsec b count) a + 1
+term-stores-size (ConsecAtLeast b count) a = run-size count a
 term-stores-size Empty a = 0
 
 -- A later step, behind the sizes before it.
@@ -68,15 +93,13 @@ step-size g s z =
 unfoldable pub first-size : ℕ → SeqTerm → Size
 first-size g x = record { text = lead-text-size x + g; stores = term-stores-size x 1 }
 
--- The text after the k-th step, and all stores up to it.
-unfoldable pub size-up-to-step : List ℕ → ℕ → ℕ → Size
-size-up-to-step steps g zero = first-size g (nth-step steps 0 .term)
-size-up-to-step steps g (suc k) = step-size g (nth-step steps (suc k)) (size-up-to-step steps g k)
+-- The text after the k-th step of a kept alternative, and all stores up to it.
+unfoldable pub size-up-to-step : List ℕ → Kept → ℕ → Size
+size-up-to-step W a zero = first-size (length (guard-of W a)) (step-of W a 0 .term)
+size-up-to-step W a (suc k) = step-size (length (guard-of W a)) (step-of W a (suc k)) (size-up-to-step W a k)
 
--- What the sums need to stay within 64 bits: refusal 13 came first, and a guard has at most three words an atom.
-pub record Countable (steps guard : List ℕ) (count : ℕ) : Type 0 where
-  pub some : 1 ≤ count
-  pub inside : count * 5 ≤ length steps
-  pub many : count ≤ 65536
-  pub registers : registers-before steps count ≤ 65536
-  pub short : length guard ≤ 1048576
+-- What the sums need to stay within 64 bits: refusal 13 came first, and the guard is short.
+pub record Countable (W : List ℕ) (a : Kept) : Type 0 where
+  pub whole : Whole W a
+  pub registers : registers-before W a (a .steps) ≤ 65536
+  pub short : length (guard-of W a) ≤ most-guard-words

@@ -3,10 +3,9 @@
 // Example: the steps Bool(0), Bool(1) after Fixed(2) take 4 words of expression and 5 words of stores.
 ghost use mathlib.Core.Path.{_≡_};
 ghost use Prim.Native.Nat.{_+_, _-_, _≤_};
-ghost use lib.ListN.{length};
 ghost use Rattle.words.specs.Choice.{«pick»};
 ghost use Rattle.step_text.specs.Text.{hop-registers, step-registers};
-ghost use Rattle.sizes.specs.Sizes.{hop-text-size, term-text-size, lead-text-size, delays-size, hop-stores-size, goto-size, run-size, term-stores-size, step-size, first-size, size-up-to-step, Countable};
+ghost use Rattle.sizes.specs.Sizes.{hop-text-size, term-text-size, lead-text-size, delays-size, hop-stores-size, goto-size, run-size, term-stores-size, step-size, first-size, size-up-to-step, most-guard-words, most-text-words, most-activation-words, most-store-words, Countable};
 
 // The words of the expression, and of the stores before it.
 pub struct Size {
@@ -24,19 +23,9 @@ fn either(test: bool, x: u64, y: u64) -> u64
     y
 }
 
-// x - y, or 0.
-fn less(x: u64, y: u64) -> u64
-    ensures { λ r. ⌜ r ≡ x - y ⌝ }
-{
-    if x < y {
-        return 0;
-    }
-    x - y
-}
-
 // The text after a hop; g are the words of the guard, e those of the text before.
 fn hop_text(h: meaning::SeqHop, g: u64, e: u64) -> u64
-    requires { ⌜ (g ≤ 1048576) × (e ≤ 4194304) ⌝ }
+    requires { ⌜ (g ≤ most-guard-words) × (e ≤ most-text-words) ⌝ }
     ensures { λ r. ⌜ r ≡ hop-text-size g h e ⌝ }
 {
     match h {
@@ -47,14 +36,14 @@ fn hop_text(h: meaning::SeqHop, g: u64, e: u64) -> u64
 
 // The text after a term; a are the words of its activation.
 fn term_text(x: meaning::SeqTerm, a: u64) -> u64
-    requires { ⌜ a ≤ 8388608 ⌝ }
+    requires { ⌜ a ≤ most-activation-words ⌝ }
     ensures { λ r. ⌜ r ≡ term-text-size x a ⌝ }
 {
     match x {
         meaning::SeqTerm::Bool(_) => a + 3,
-        meaning::SeqTerm::Goto(_, k) => either(k < 2, a + 5, 4),
-        meaning::SeqTerm::Nonconsec(_, k) => either(k < 2, a + 11, 10),
-        meaning::SeqTerm::ConsecAtLeast(_, k) => either(k < 2, a + 5, 6),
+        meaning::SeqTerm::Goto(_, count) => either(count < 2, a + 5, 4),
+        meaning::SeqTerm::Nonconsec(_, count) => either(count < 2, a + 11, 10),
+        meaning::SeqTerm::ConsecAtLeast(_, count) => either(count < 2, a + 5, 6),
         meaning::SeqTerm::Empty => a,
     }
 }
@@ -74,72 +63,72 @@ fn lead_text(x: meaning::SeqTerm) -> u64
 
 // The stores of d delays.
 pub fn delays(g: u64, d: u64, e: u64) -> u64
-    requires { ⌜ (g ≤ 1048576) × (d ≤ 65536) × (e ≤ 4194304) ⌝ }
+    requires { ⌜ (g ≤ most-guard-words) × (d ≤ 65536) × (e ≤ most-text-words) ⌝ }
     ensures { λ r. ⌜ r ≡ delays-size g d e ⌝ }
 {
-    let others = less(d, 1) * (2 + g);
-    either(d == 0, 0, e + 1 + others)
+    if d == 0 {
+        return 0;
+    }
+    e + 1 + (d - 1) * (2 + g)
 }
 
 // The stores of a hop.
 fn hop_stores(h: meaning::SeqHop, g: u64, e: u64) -> u64
-    requires { ⌜ (g ≤ 1048576) × (hop-registers h ≤ 65536) × (e ≤ 4194304) ⌝ }
+    requires { ⌜ (g ≤ most-guard-words) × (hop-registers h ≤ 65536) × (e ≤ most-text-words) ⌝ }
     ensures { λ r. ⌜ r ≡ hop-stores-size g h e ⌝ }
 {
     match h {
         meaning::SeqHop::Fixed(d) => delays(g, d as u64, e),
-        meaning::SeqHop::AtLeast(m) => {
-            let late = delays(0, less(m as u64, 1), e);
-            either(m < 2, 3 + e, late + 4)
-        }
+        meaning::SeqHop::AtLeast(m) => e + 3 + words::one_less(m) as u64 * 2,
     }
 }
 
 // The stores of a goto.
-fn goto_size(k: u64, a: u64) -> u64
-    requires { ⌜ (k ≤ 4294967295) × (a ≤ 8388608) ⌝ }
-    ensures { λ r. ⌜ r ≡ goto-size k a ⌝ }
+fn goto_size(count: u32, a: u64) -> u64
+    requires { ⌜ a ≤ most-activation-words ⌝ }
+    ensures { λ r. ⌜ r ≡ goto-size count a ⌝ }
 {
-    let stages = less(k, 2) * 11;
-    either(k < 2, a + 7, a + 7 + (a + 12) + stages)
+    if count < 2 {
+        return a + 7;
+    }
+    a + 7 + (a + 12) + (count - 2) as u64 * 11
 }
 
 // The stores of an "at least" repetition.
-fn run_size(k: u64, a: u64) -> u64
-    requires { ⌜ (k ≤ 4294967295) × (a ≤ 8388608) ⌝ }
-    ensures { λ r. ⌜ r ≡ run-size k a ⌝ }
+fn run_size(count: u32, a: u64) -> u64
+    requires { ⌜ a ≤ most-activation-words ⌝ }
+    ensures { λ r. ⌜ r ≡ run-size count a ⌝ }
 {
-    let stages = less(k, 2) * 5;
-    either(k < 2, a + 6, a + 4 + stages + 7)
+    a + 6 + words::one_less(count) as u64 * 5
 }
 
-// The stores of a nonconsecutive repetition x of count k: the goto's, and its extension.
-fn nonconsec_size(x: meaning::SeqTerm, k: u64, a: u64) -> u64
-    requires { ⌜ (k ≤ 4294967295) × (a ≤ 8388608) ⌝ }
-    ensures { λ r. ⌜ r ≡ goto-size k a + term-text-size x a + 1 ⌝ }
+// The stores of a nonconsecutive repetition x of that count: the goto's, and its extension.
+fn nonconsec_size(x: meaning::SeqTerm, count: u32, a: u64) -> u64
+    requires { ⌜ a ≤ most-activation-words ⌝ }
+    ensures { λ r. ⌜ r ≡ goto-size count a + term-text-size x a + 1 ⌝ }
 {
-    let first = goto_size(k, a);
+    let stages = goto_size(count, a);
     let text = term_text(x, a);
-    first + text + 1
+    stages + text + 1
 }
 
 // The stores of a term.
 fn term_stores(x: meaning::SeqTerm, a: u64) -> u64
-    requires { ⌜ a ≤ 8388608 ⌝ }
+    requires { ⌜ a ≤ most-activation-words ⌝ }
     ensures { λ r. ⌜ r ≡ term-stores-size x a ⌝ }
 {
     match x {
         meaning::SeqTerm::Bool(_) => 0,
-        meaning::SeqTerm::Goto(_, k) => goto_size(k as u64, a),
-        meaning::SeqTerm::Nonconsec(_, k) => nonconsec_size(x, k as u64, a),
-        meaning::SeqTerm::ConsecAtLeast(_, k) => run_size(k as u64, a),
+        meaning::SeqTerm::Goto(_, count) => goto_size(count, a),
+        meaning::SeqTerm::Nonconsec(_, count) => nonconsec_size(x, count, a),
+        meaning::SeqTerm::ConsecAtLeast(_, count) => run_size(count, a),
         meaning::SeqTerm::Empty => 0,
     }
 }
 
-// A later step.
+// The sizes after a later step s, from those before it.
 fn step_size(s: meaning::SeqStep, g: u64, z: Size) -> Size
-    requires { ⌜ (g ≤ 1048576) × (step-registers s ≤ 65536) × (z .text ≤ 4194304) × (z .stores ≤ 9007199254740992) ⌝ }
+    requires { ⌜ (g ≤ most-guard-words) × (step-registers s ≤ 65536) × (z .text ≤ most-text-words) × (z .stores ≤ most-store-words) ⌝ }
     ensures { λ r. ⌜ r ≡ step-size g s z ⌝ }
 {
     let x = s.term;
@@ -152,9 +141,9 @@ fn step_size(s: meaning::SeqStep, g: u64, z: Size) -> Size
     }
 }
 
-// The first term, with its guard.
+// The sizes after the first term and its guard.
 fn first_size(x: meaning::SeqTerm, g: u64) -> Size
-    requires { ⌜ g ≤ 1048576 ⌝ }
+    requires { ⌜ g ≤ most-guard-words ⌝ }
     ensures { λ r. ⌜ r ≡ first-size g x ⌝ }
 {
     Size {
@@ -163,19 +152,19 @@ fn first_size(x: meaning::SeqTerm, g: u64) -> Size
     }
 }
 
-// The sizes of an alternative of count steps.
-pub fn sizes(steps: &[u32], guard: &[u32], count: usize) -> Size
-    requires { ⌜ Countable (now steps) (now guard) count ⌝ }
-    ensures { λ r. ⌜ r ≡ size-up-to-step (now (steps .entry)) (length (now (guard .entry))) (count - 1) ⌝ }
+// The sizes of a kept alternative.
+pub fn sizes(work: &[u32], kept: term::Kept) -> Size
+    requires { ⌜ Countable (now work) kept ⌝ }
+    ensures { λ r. ⌜ r ≡ size-up-to-step (now (work .entry)) kept (kept .steps - 1) ⌝ }
 {
-    let g = guard.len() as u64;
-    let s = current::step(steps, 0);
+    let g = (kept.end - kept.guard) as u64;
+    let s = term::step(work, kept, 0);
     let x = s.term;
     let mut z = first_size(x, g);
     let mut k = 1;
-    while k < count {
-        let t = current::step(steps, k);
-        z = step_size(t, g, z);
+    while k < kept.steps {
+        let s = term::step(work, kept, k);
+        z = step_size(s, g, z);
         k += 1;
     }
     z

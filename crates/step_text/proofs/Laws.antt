@@ -52,7 +52,7 @@ module _ (s : SeqStep) (r : ℕ) {h : SeqHop} {q : ℕ} (e : h ≡ reach s) (f :
   pub term-register-done : r + q ≡ r + hop-registers (reach s)
   term-register-done = rw term-register-is
 
--- What a match on the hop says of its words and their room: y is the variant, ws its words.
+-- What a match on the hop says of its words and their room: y is the variant.
 module _ (r at : ℕ) {x y : SeqHop} (e : x ≡ y) where
   pub hop-prefix-in : {o o′ : List ℕ} {p : ℕ} → Wrote o o′ at p (hop-prefix r y) → Wrote o o′ at p (hop-prefix r x)
   hop-prefix-in w = rw e w
@@ -82,7 +82,7 @@ module _ (G : List ℕ) (r at : ℕ) {x y : SeqHop} (e : x ≡ y) where
   pub hop-base-rest : {o o₁ : List ℕ} {a w : ℕ} → hop-base G r y ≡ w ∷ G → at + length (hop-base G r x) ≤ length o → Wrote o o₁ at a (w ∷ []) → a + length G ≤ length o₁
   hop-base-rest {o} {o₁} {a} {w} q h v = let h′ : at + length (w ∷ G) ≤ length o = same-room at (ap (hop-base G r) e ∙ q) h in omega (arith, v .ends, still-long v)
 
--- .. and a match on the term.
+-- What a match on the term says of its words and their room: y is the variant.
 module _ (r at : ℕ) {x y : SeqTerm} (e : x ≡ y) where
   pub prefix-in : {o o′ : List ℕ} {p : ℕ} → Wrote o o′ at p (term-prefix r y) → Wrote o o′ at p (term-prefix r x)
   prefix-in w = rw e w
@@ -160,7 +160,7 @@ hop-counts r (AtLeast m) f h =
 pub hop-counted : (r : ℕ) {x y : SeqHop} {k : ℕ} → x ≡ y → hop-ticks y ≡ k → hop-keeps x ≡ false → r + hop-registers x ≤ 65536 → Counted r k
 hop-counted r {x} e q f h = rw (← q, ← e) (hop-counts r x f h)
 
--- A machine that begins anew has two or more.
+-- A machine that begins anew has two registers or more.
 term-two : (x : SeqTerm) → term-keeps x ≡ false → 2 ≤ term-count x
 unfolding term-keeps
 term-two (BoolTerm a) f = absurd (false-is-not-true (sym f))
@@ -169,7 +169,7 @@ term-two (Nonconsec b k) f = ltb-false k 2 f
 term-two (ConsecAtLeast b k) f = ltb-false k 2 f
 term-two Empty f = absurd (false-is-not-true (sym f))
 
--- .. as many as its count, and a nonconsecutive one more.
+-- A machine has as many registers as its count, and a nonconsecutive one more.
 pub term-count-small : (x : SeqTerm) → term-count x ≤ term-registers x
 unfolding term-registers
 term-count-small (BoolTerm a) = omega arith

@@ -11,7 +11,7 @@ use Rattle.words.proofs.Laws.{same-words, same-room, first-room, second-room, b
 use Rattle.meaning.specs.declared.SeqTerm.{SeqTerm}
 use Rattle.meaning.specs.declared.SeqHop.{SeqHop}
 use Rattle.meaning.specs.declared.SeqStep.{SeqStep}
-use Rattle.step_text.specs.Text.{reach, hop-registers, term-registers, step-registers, hop-keeps, term-keeps, hop-prefix, hop-suffix, term-prefix, term-suffix, hop-base, term-base, lead-text, step-prefix, step-suffix, step-base, BeginsAnew}
+use Rattle.step_text.specs.Text.{reach, hop-registers, step-registers, hop-keeps, term-keeps, hop-prefix, hop-suffix, term-prefix, term-suffix, hop-base, term-base, lead-text, step-prefix, step-suffix, step-base, BeginsAnew, TermFits, StepFits}
 
 -- The first step: its term, then the guard.
 module _ (r : ℕ) (x : SeqTerm) (G : List ℕ) where
@@ -52,7 +52,7 @@ module _ (s : SeqStep) (r : ℕ) {h : SeqHop} {q : ℕ} (e : h ≡ reach s) (i :
   pub suffix-done : {at a p : ℕ} {o o₁ o₂ : List ℕ} → Wrote o o₁ at a (hop-suffix h) → Wrote o₁ o₂ a p (term-suffix q (s .term)) → Wrote o o₂ at p (step-suffix r s)
   suffix-done u v = both-done suffix-parts u v
 
-  -- Its text begins anew with the hop.
+  -- A later step whose text begins anew with its hop.
   module _ (G : List ℕ) {b : Bool} (k : b ≡ term-keeps (s .term)) (f : b ≡ true) where
     base-parts : step-base G r s ≡ term-prefix q (s .term) ++ (hop-base G r h ++ term-suffix q (s .term))
     unfolding step-base
@@ -73,16 +73,16 @@ module _ (s : SeqStep) (r : ℕ) {h : SeqHop} {q : ℕ} (e : h ≡ reach s) (i :
     base-done u v w = three-done base-parts u v w
 
 module _ (s : SeqStep) (r : ℕ) where
-  pub hop-small : {h : SeqHop} → h ≡ reach s → r + step-registers s ≤ 65536 → r + hop-registers h ≤ 65536
+  pub hop-small : {h : SeqHop} → h ≡ reach s → StepFits r s → r + hop-registers h ≤ 65536
   unfolding step-registers
-  hop-small e w = rw e (omega (arith, w))
+  hop-small e w = rw e (omega (arith, w .high))
 
   module _ {q : ℕ} (i : q ≡ r + hop-registers (reach s)) where
-    pub term-small : r + step-registers s ≤ 65536 → q + term-registers (s .term) ≤ 65536
+    pub term-small : StepFits r s → TermFits q (s .term)
     unfolding step-registers
-    term-small w = omega (arith, w, i)
+    term-small w = record { high = omega (arith, w .high, i); atom = w .atom }
 
-    -- .. or with the term.
+    -- A later step whose text begins anew with its term.
     module _ (G : List ℕ) {b : Bool} (k : b ≡ term-keeps (s .term)) (f : b ≡ false) where
       base-anew : step-base G r s ≡ term-base q (s .term)
       unfolding step-base

@@ -4,7 +4,7 @@
 use mathlib.Core.Path.{_≡_}
 use mathlib.Core.Bool.{Bool, true, false}
 use mathlib.Core.List.{List, [], _∷_, _++_}
-use Prim.Native.Nat.{ℕ, _+_, _-_}
+use Prim.Native.Nat.{ℕ, _+_, _-_, _<_, _≤_}
 use lib.Dec.{eqb, ltb}
 use Rattle.words.specs.Choice.{pick}
 use Rattle.meaning.specs.Expression.{Tag}
@@ -15,8 +15,9 @@ use Rattle.meaning.specs.declared.SeqTerm.the-variants.{Bool as BoolTerm, Goto,
 use Rattle.meaning.specs.declared.SeqHop.{SeqHop}
 use Rattle.meaning.specs.declared.SeqHop.the-variants.{Fixed, AtLeast}
 use Rattle.meaning.specs.declared.SeqStep.{SeqStep}
+use Rattle.term.specs.Steps.{term-atom}
 
--- 01, The listing: "1 atom, 2 register, 3 zero, 4 one, 5 any (reduction OR), 6 not, 7 and, 8 or", then the stores.
+-- SPECIFICATION, "The listing": the table of operations, 1 to 8, then the stores.
 abbrev pub atom-word : ℕ → ℕ
 atom-word a = word 1 a
 
@@ -44,7 +45,7 @@ or-word = word 8 0
 abbrev pub store-word : Tag → ℕ → ℕ
 store-word tag r = word (store-operation tag) r
 
--- The hop that a later step takes: "Empty after a fixed d >= 1 takes d - 1 delays"; its other hops are refused with 12.
+-- The hop that a later step takes: "Empty behind a fixed hop of d, d at least 1, makes d - 1 delays"; its other hops are refused with 12.
 unfoldable pub before-empty : SeqHop → SeqHop
 before-empty (Fixed d) = Fixed (d - 1)
 before-empty (AtLeast m) = Fixed 0
@@ -54,7 +55,7 @@ reach s = pick (is-empty (s .term)) (before-empty (s .hop)) (s .hop)
 
 -- A machine's count of 0 is taken as 1, and an "at least 0" has its latch as an "at least 1" has.
 unfoldable pub at-least-one : ℕ → ℕ
-at-least-one n = pick (eqb n 0) 1 n
+at-least-one k = pick (eqb k 0) 1 k
 
 -- The registers of a hop, of a term, and of a later step.
 unfoldable pub hop-registers : SeqHop → ℕ
@@ -83,7 +84,7 @@ term-keeps (Nonconsec b k) = ltb k 2
 term-keeps (ConsecAtLeast b k) = ltb k 2
 term-keeps Empty = true
 
--- Where it does: what stands in front of that text, and behind it. r is the first register of the hop, or of the term.
+-- What stands in front of the text that is kept, and behind it. r is the first register of the hop, or of the term.
 unfoldable pub hop-prefix : ℕ → SeqHop → List ℕ
 hop-prefix r (Fixed d) = []
 hop-prefix r (AtLeast m) = register-word r ∷ []
@@ -110,7 +111,7 @@ term-suffix r (Nonconsec b k) = or-word ∷ and-word ∷ extension-words b (r + 
 term-suffix r (ConsecAtLeast b k) = register-word r ∷ or-word ∷ atom-word b ∷ any-word ∷ and-word ∷ []
 term-suffix r Empty = []
 
--- Where it does not: the whole text. Only a fixed hop's delays take the guard, whose words are G.
+-- The whole text where it begins anew. Only a fixed hop's delays take the guard, whose words are G.
 unfoldable pub hop-base : List ℕ → ℕ → SeqHop → List ℕ
 hop-base G r (Fixed d) = register-word (r + d - 1) ∷ G
 hop-base G r (AtLeast m) = register-word (r + m - 1) ∷ []
@@ -132,7 +133,7 @@ term-text r x activation = pick (term-keeps x) (term-prefix r x ++ (activation +
 unfoldable pub step-text : List ℕ → ℕ → SeqStep → List ℕ → List ℕ
 step-text G r s before = term-text (r + hop-registers (reach s)) (s .term) (hop-text G r (reach s) before)
 
--- The first term: "a machine is activated at every tick".
+-- The first term: "a machine that comes first is activated by constant 1, at every tick".
 unfoldable pub lead-text : ℕ → SeqTerm → List ℕ
 lead-text r (BoolTerm a) = atom-word a ∷ any-word ∷ []
 lead-text r (Goto b k) = term-text r (Goto b k) (one-word ∷ [])
@@ -155,3 +156,12 @@ step-base G r s =
 -- A later step whose text does not hold the text before it.
 pub record BeginsAnew (s : SeqStep) : Type 0 where
   pub anew : term-keeps (s .term) ≡ true → hop-keeps (reach s) ≡ false
+
+-- The registers of a term, from r on, and its atom are small enough for words; and those of a later step.
+pub record TermFits (r : ℕ) (x : SeqTerm) : Type 0 where
+  pub high : r + term-registers x ≤ 65536
+  pub atom : term-atom x < 65536
+
+pub record StepFits (r : ℕ) (s : SeqStep) : Type 0 where
+  pub high : r + step-registers s ≤ 65536
+  pub atom : term-atom (s .term) < 65536

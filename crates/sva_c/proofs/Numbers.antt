@@ -7,9 +7,9 @@ use Prim.Native.Nat.{ℕ, zero, suc, _+_, _*_, _%_, _≤_}
 use lib.Dec.{T, eqb, leb, ltb, leb→le}
 use lib.ListN.{length}
 use Rattle.words.specs.Choice.{pick, pick-case}
-use Rattle.meaning.specs.Tree.{finite, unbounded, Seq, atom, delay, consec, goto, nonconsec, throughout, within, Operand, operand, node-at, nodes, below, root}
+use Rattle.meaning.specs.Tree.{finite, unbounded, Seq, atom, delay, consec, goto, nonconsec, throughout, within, Rooted, a-within, another, rooted, Operand, operand, node-at, nodes, below, root}
 use Rattle.meaning.specs.Alternative.{SeqAlt, expand}
-use Rattle.meaning.specs.Refusals.{lowest-failing, formed-node, used-once, range-node, table, entries, plain, limited, and-then, deep-enough, is-boolean, over-boolean, walk-in, walk, within-fits, limited-within, walk-root, room-of, Found, at, nowhere}
+use Rattle.meaning.specs.Refusals.{lowest-failing, formed-node, used-once, range-node, table, entries, plain, limited, and-then, deep-enough, is-boolean, over-boolean, walk-in, walk, within-fits, limited-within, walk-rooted, walk-root, room-of, Found, at, nowhere}
 use Rattle.meaning.specs.Lower.{fits, after-walk, after-table, after-nothing, lower}
 use Rattle.meaning.specs.Check.{check}
 use Rattle.meaning.specs.Tick.{too-short, bits, tick-if, tick}
@@ -32,7 +32,7 @@ Between low high number = (low ≤ number) × (number ≤ high)
 refused : {low high : ℕ} (number : ℕ) → T (leb low number) → T (leb number high) → Between low high number
 refused {low} {high} number l h = (leb→le low number l, leb→le number high h)
 
--- What is asked of an answer, of the table's checks, the walk, lowering and a tick: if it is a refusal, that its number is one of 01's.
+-- What is asked of an answer, of the table's checks, the walk, lowering and a tick: if it is a refusal, that its number is one of those listed.
 abbrev OfTable : Table → Type 0
 OfTable Formed = Unit {0}
 OfTable (Misformed number place) = Between 1 14 number
@@ -123,16 +123,14 @@ limited-within-numbered room n xs ys =
     (λ _. refused 9 tt tt)
 
 -- 4 to 11: the walk from the root.
+walk-rooted-numbered : (room : ℕ) (s : Rooted) → OfWalk (walk-rooted room s)
+walk-rooted-numbered room (a-within n s₁ s₂) =
+    and-then-numbered _ _ (walk-numbered room 1 s₁) (and-then-numbered _ _ (walk-numbered room 1 s₂) (limited-within-numbered room n _ _))
+walk-rooted-numbered room (another s) = walk-numbered room 1 s
+
 walk-root-numbered : (room : ℕ) (s : Seq) → OfWalk (walk-root room s)
 unfolding walk-root
-walk-root-numbered room (within n s₁ s₂) =
-    and-then-numbered _ _ (walk-numbered room 1 s₁) (and-then-numbered _ _ (walk-numbered room 1 s₂) (limited-within-numbered room n _ _))
-walk-root-numbered room (atom n a) = walk-numbered room 1 _
-walk-root-numbered room (delay n l r m x) = walk-numbered room 1 _
-walk-root-numbered room (consec n s m x) = walk-numbered room 1 _
-walk-root-numbered room (goto n s k) = walk-numbered room 1 _
-walk-root-numbered room (nonconsec n s k) = walk-numbered room 1 _
-walk-root-numbered room (throughout n c s) = walk-numbered room 1 _
+walk-root-numbered room s = walk-rooted-numbered room (rooted s)
 
 -- 13 and 14.
 fits-numbered : (count : ℕ) (ws : List ℕ) (first out : ℕ) → OfLowering (fits count ws first out)

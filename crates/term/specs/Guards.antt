@@ -5,7 +5,7 @@ use Prim.Native.Nat.{ℕ}
 use Rattle.meaning.specs.Alternative.{Guard, unguarded, guard}
 use Rattle.meaning.specs.Listing.{word, expression-words}
 
--- "Guards are ANDed to the seed and after each delay register."
+-- "ANDed to the seed and to the value behind each delay register of a fixed hop."
 abbrev pub guard-words : Guard → List ℕ
 guard-words unguarded = []
 guard-words (guard x) = expression-words x ++ (word 7 0 ∷ [])

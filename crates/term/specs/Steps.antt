@@ -1,8 +1,7 @@
 -- A step as five words: the term's tag, atom and count, and the hop's tag and length. And steps one after the other.
 -- Example: `step-words` of Bool 7 reached by AtLeast 2 is 1 ∷ 7 ∷ 0 ∷ 1 ∷ 2 ∷ [].
-use mathlib.Core.Path.{_≡_}
 use mathlib.Core.List.{List, [], _∷_, _++_}
-use Prim.Native.Nat.{ℕ, zero, suc, _+_, _*_, _<_}
+use Prim.Native.Nat.{ℕ, _+_, _<_}
 use lib.Dec.{eqb}
 use lib.ListN.{getD}
 use Rattle.words.specs.Choice.{pick}
@@ -65,21 +64,7 @@ unfoldable pub steps-words : List SeqStep → List ℕ
 steps-words [] = []
 steps-words (s ∷ ss) = step-words s ++ steps-words ss
 
--- The k-th of the steps that are stored one after the other.
-abbrev pub nth-step : List ℕ → ℕ → SeqStep
-nth-step steps k = step-at steps (k * 5)
-
--- So many of them, from the k-th on.
-unfoldable pub steps-from : List ℕ → ℕ → ℕ → List SeqStep
-steps-from steps k zero = []
-steps-from steps k (suc count) = nth-step steps k ∷ steps-from steps (suc k) count
-
--- These steps are stored, the first of them as the k-th.
-abbrev pub Stored : List ℕ → ℕ → List SeqStep → Type 0
-Stored steps k [] = Unit {0}
-Stored steps k (s ∷ ss) = (nth-step steps k ≡ s) × Stored steps (suc k) ss
-
--- 1: "atom too large" came first, so that each atom fits into a listing's word.
+-- 1: "an atom or condition above 65,535" came first, so that each atom fits into a listing's word.
 abbrev pub SmallAtoms : List SeqStep → Type 0
 SmallAtoms [] = Unit {0}
 SmallAtoms (s ∷ ss) = (term-atom (s .term) < 65536) × SmallAtoms ss

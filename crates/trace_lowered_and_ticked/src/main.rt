@@ -1,4 +1,4 @@
-// 01's trace row: `a ##1 b[->2]` with a at tick 0 and b at 1, 3 and 4 matches at 3 only. The tree is lowered, and the words that
+// The trace row of SPECIFICATION, "Cases": `a ##1 b[->2]` with a at tick 0 and b at 1, 3 and 4 matches at 3 only. The tree is lowered, and the words that
 // were written are ticked from registers at zero; a line for each tick has what the atoms were and the answer.
 //
 // Example: `tick 3: a 0, b 1, match 1`.

@@ -1,11 +1,11 @@
-pub mod RegisterSums
 pub mod PairByPair
 pub mod Lengths
 pub mod Rows
-pub mod RegisterPass
 pub mod Windows
+pub mod KeptPairs
+pub mod RegisterPass
 pub mod Numbering
-pub mod SizePass
 pub mod StorePass
 pub mod TextPass
+pub mod SizePass
 pub mod Whole

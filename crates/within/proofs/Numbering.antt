@@ -1,119 +1,95 @@
--- The register numbers of the two passes that write: before each alternative the rest of them takes what is left of all, so that
--- each number is small.
-use mathlib.Core.Path.{_≡_, refl, ap, _∙_}
-use mathlib.Core.List.{List, [], _∷_}
+-- The register numbers of the passes that write: before each pair, and before each row, the rest of them takes what is left of all, so that each number
+-- is small.
+use mathlib.Core.Path.{_≡_, refl, sym, ap}
+use mathlib.Core.List.{List, _∷_}
 use Prim.Native.Nat.{ℕ, _+_, _-_, _<_, _≤_}
 use native.Mathlib.Omega.{arith}
-use mir.Val.{Fits}
-use mir.Syntax.{w32}
-use lib.ListN.{length, take, drop, drop-of-length-le}
-use Rattle.words.specs.Written.{Wrote}
-use Rattle.meaning.specs.Root.{window-len}
-use Rattle.meaning.specs.declared.SeqHop.the-variants.{Fixed}
-use Rattle.expand.specs.ByNumber.{alternatives-of, nth, alternative-words}
-use Rattle.expand.proofs.Index.{rest-of}
-use Rattle.pair.specs.Stored.{steps-in}
-use Rattle.pair.specs.Pairs.{registers-in, taken-registers}
-use Rattle.within.specs.AllPairs.{pairs-registers, row-registers, all-registers}
-use Rattle.within.specs.Rows.{Placed, Paired}
-use Rattle.within.proofs.RegisterPass.{part-registers, row-registers-are}
+use lib.ListN.{length, drop}
+use Rattle.outline.specs.Outline.{count-in}
+use Rattle.current.specs.Text.{registers-before}
+use Rattle.current.specs.Walk.{Placed}
+use Rattle.expand.specs.ByNumber.{alternatives-of}
+use Rattle.alternative.specs.Alternatives.{registers-in}
+use Rattle.alternative.specs.Keeping.{chosen, Ended}
+use Rattle.alternative.proofs.Laws.{placed, next-in}
+use Rattle.pair.specs.declared.Pair.{Pair}
+use Rattle.pair.specs.Pairs.{Fitted, kept-pair-registers, PlacedPair}
+use Rattle.within.specs.declared.Row.{Row}
+use Rattle.within.specs.AllPairs.{fits-from, pairs-registers, row-registers, all-registers}
+use Rattle.within.specs.Rows.{Numberable, Windows, Rowed, Rowing, Beside, pairs-of}
+use Rattle.within.proofs.Rows.{pairs-are, OverRows, rows-begin, row-left, rows-on}
+use Rattle.within.proofs.Windows.{left, Pairing, pairing-begins, all-left, none-left, here-left, next-left, pairing-on}
+use Rattle.within.proofs.KeptPairs.{beside-next, beside-placed}
 
--- The alternative of seq1 that stands in work.
-module _ {t outline : List ℕ} {n place j : ℕ} {work work₁ : List ℕ} {end : ℕ} (l : ℕ) (P : Placed t outline n place (length work))
-    (h : j < length (alternatives-of t n)) (w : Wrote work work₁ place end (alternative-words (Fixed 0) (alternatives-of t n) j))
-    (x : ℕ) (small : x + taken-registers l (nth (alternatives-of t n) j .steps) ≤ 65536) where
-  pub part-registers-small : x + taken-registers l (steps-in (take (end - place) (drop place work₁))) ≤ 65536
-  part-registers-small = rw (part-registers l P h w) small
+-- The pairs of a row, whose registers begin with x.
+pub record PairNumbers (t o windows : List ℕ) (row : Row) (x count : ℕ) (work₀ work : List ℕ) (r j : ℕ) : Type 0 where
+  pub pairing : Pairing t o windows row count work₀ work j
+  pub few : x + pairs-registers (pairs-of t row) ≤ 65536
+  pub register : r + pairs-registers (left t row j) ≡ x + pairs-registers (pairs-of t row)
 
-  module _ {r : ℕ} (e : r ≡ taken-registers l (steps-in (take (end - place) (drop place work₁)))) where
-    pub part-registers-fit : Fits w32 r
-    part-registers-fit = omega (arith, part-registers l P h w)
+pub pair-numbers-begin : {t o windows : List ℕ} {row : Row} {work : List ℕ} (x : ℕ) {count j : ℕ} → Rowing t o windows row work
+    → x + pairs-registers (pairs-of t row) ≤ 65536 → count ≡ count-in o (row .one) → j ≡ fits-from windows (row .window) 0 (count - 0)
+    → PairNumbers t o windows row x count work work x j
+pair-numbers-begin x R few c e =
+    record { pairing = pairing-begins R c e; few = few; register = ap (λ (fs : List Fitted). x + pairs-registers fs) (sym (all-left R c e)) }
 
-    pub part-register-fits : Fits w32 (x + r)
-    part-register-fits = omega (arith, part-registers l P h w)
+module _ {t o windows : List ℕ} {row : Row} {x count : ℕ} {work₀ work : List ℕ} {r j : ℕ} (N : PairNumbers t o windows row x count work₀ work r j) where
+  pub pair-numbers-end : count ≤ j → r ≡ x + pairs-registers (pairs-of t row)
+  unfolding pairs-registers
+  pair-numbers-end h = omega (arith, N .register, ap pairs-registers (none-left (N .pairing) h))
 
--- The pairs of one alternative of seq2.
-pub record PairNumbers (t : List ℕ) (n l x count : ℕ) (work₀ work : List ℕ) (r j : ℕ) : Type 0 where
-  pub counted : count ≡ length (alternatives-of t n)
-  pub turn : j ≤ length (alternatives-of t n)
-  pub long : length work ≡ length work₀
-  pub register : r + pairs-registers l (drop j (alternatives-of t n)) ≡ x + pairs-registers l (alternatives-of t n)
-
-pub pair-numbers-begin : {t : List ℕ} {n count : ℕ} (l x : ℕ) (work : List ℕ) → count ≡ length (alternatives-of t n) → PairNumbers t n l x count work work x 0
-pair-numbers-begin l x work c = record { counted = c; turn = omega arith; long = refl; register = refl }
-
-module _ {t : List ℕ} {n l x count : ℕ} {work₀ work : List ℕ} {r j : ℕ} (N : PairNumbers t n l x count work₀ work r j) where
-  module _ (h : j < count) where
-    pub pair-next : drop j (alternatives-of t n) ≡ nth (alternatives-of t n) j ∷ drop (j + 1) (alternatives-of t n)
-    pair-next = rest-of (alternatives-of t n) j (omega (arith, N .counted))
-
-    register-next : r + taken-registers l (nth (alternatives-of t n) j .steps) + pairs-registers l (drop (j + 1) (alternatives-of t n))
-        ≡ x + pairs-registers l (alternatives-of t n)
+  module _ (h : j < count) {work₁ : List ℕ} {pair : Pair} (B : Beside (chosen t (row .one) j) row r work work₁ pair) where
+    pub pair-numbers-small : PlacedPair work₁ pair
     unfolding pairs-registers
-    register-next = omega (arith, N .register, ap (pairs-registers l) pair-next)
+    pair-numbers-small = beside-placed B (omega (arith, N .few, N .register, ap pairs-registers (here-left (N .pairing) h)))
 
-    pub pair-numbers-small : x + pairs-registers l (alternatives-of t n) ≤ 65536 → r + taken-registers l (nth (alternatives-of t n) j .steps) ≤ 65536
-    pair-numbers-small small = omega (arith, register-next)
-
-    pub pair-numbers-on : {work₁ : List ℕ} {r₁ : ℕ} → length work₁ ≡ length work → r₁ ≡ r + taken-registers l (nth (alternatives-of t n) j .steps)
-        → PairNumbers t n l x count work₀ work₁ r₁ (j + 1)
-    pair-numbers-on same e = record { counted = N .counted; turn = omega (arith, N .counted); long = same ∙ N .long; register = rw e register-next }
-
-  module _ (h : count ≤ j) where
-    pub no-pair-left : drop j (alternatives-of t n) ≡ []
-    no-pair-left = drop-of-length-le (alternatives-of t n) {i = j} (omega (arith, N .counted))
-
-    pub pair-numbers-end : r ≡ x + pairs-registers l (alternatives-of t n)
+    pub pair-numbers-on : {r₁ j₁ : ℕ} → r₁ ≡ pair .one .register + kept-pair-registers work₁ pair
+        → j₁ ≡ fits-from windows (row .window) (j + 1) (count - (j + 1)) → PairNumbers t o windows row x count work₀ work₁ r₁ j₁
     unfolding pairs-registers
-    pair-numbers-end = omega (arith, N .register, ap (pairs-registers l) no-pair-left)
+    pair-numbers-on e f = record {
+      pairing = pairing-on (N .pairing) h f B;
+      few = N .few;
+      register = omega (arith, N .register, e, beside-next B, ap pairs-registers (next-left (N .pairing) h f));
+    }
 
--- One alternative of seq2 and its pairs: its own registers, then theirs.
-module _ {t outline : List ℕ} {n₁ n₂ i : ℕ} {work work₁ : List ℕ} {end : ℕ} (P : Paired t outline n₁ n₂ (length work)) (h : i < length (alternatives-of t n₂))
-    (w : Wrote work work₁ 0 end (alternative-words (Fixed 0) (alternatives-of t n₂) i)) {l own : ℕ} (e : l ≡ window-len (steps-in (take end work₁)))
-    (f : own ≡ registers-in (steps-in (take end work₁))) (x : ℕ)
-    (small : x + row-registers (alternatives-of t n₁) (nth (alternatives-of t n₂) i .steps) ≤ 65536) where
-  pub row-own-fits : Fits w32 own
-  row-own-fits = omega (arith, row-registers-are P h w e f)
+-- All rows, whose registers begin with x.
+pub record AllNumbers (t o windows : List ℕ) (one two x count : ℕ) (work₀ work : List ℕ) (r i : ℕ) : Type 0 where
+  pub rows : OverRows t o windows one two count work₀ work i
+  pub few : x + all-registers (alternatives-of t one) (alternatives-of t two) ≤ 65536
+  pub register : r + all-registers (alternatives-of t one) (drop i (alternatives-of t two)) ≡ x + all-registers (alternatives-of t one) (alternatives-of t two)
 
-  pub row-register-fits : Fits w32 (x + own)
-  row-register-fits = omega (arith, row-registers-are P h w e f)
+pub all-numbers-begin : {t o windows : List ℕ} {one two x count : ℕ} {work : List ℕ} → Numberable t o one two x (length work) → Windows t windows one
+    → count ≡ count-in o two → AllNumbers t o windows one two x count work work x 0
+all-numbers-begin N M c = record { rows = rows-begin (N .paired) M c; few = N .few; register = refl }
 
-  pub row-own-small : x + registers-in (steps-in (take end work₁)) ≤ 65536
-  row-own-small = omega (arith, row-registers-are P h w e f)
+module _ {t o windows : List ℕ} {one two x count : ℕ} {work₀ work : List ℕ} {r i : ℕ} (N : AllNumbers t o windows one two x count work₀ work r i) (h : i < count) where
+  register-left : r + row-registers (alternatives-of t one) (chosen t two i) + all-registers (alternatives-of t one) (drop (i + 1) (alternatives-of t two))
+      ≡ x + all-registers (alternatives-of t one) (alternatives-of t two)
+  unfolding all-registers
+  register-left = omega (arith, N .register, ap (all-registers (alternatives-of t one)) (row-left (N .rows) h))
 
-  pub row-pairs-small : x + own + pairs-registers l (alternatives-of t n₁) ≤ 65536
-  row-pairs-small = omega (arith, row-registers-are P h w e f)
+  module _ {work₁ : List ℕ} {row : Row} (R : Rowed t o one (chosen t two i) r work₁ row) where
+    row-takes : row-registers (alternatives-of t one) (chosen t two i) ≡ registers-in (chosen t two i) + pairs-registers (pairs-of t row)
+    unfolding row-registers
+    row-takes = rw (pairs-are R) refl
 
--- All of them.
-pub record AllNumbers (t : List ℕ) (n₁ n₂ first count : ℕ) (work₀ work : List ℕ) (r i : ℕ) : Type 0 where
-  pub counted : count ≡ length (alternatives-of t n₂)
-  pub turn : i ≤ length (alternatives-of t n₂)
-  pub long : length work ≡ length work₀
-  pub register : r + all-registers (alternatives-of t n₁) (drop i (alternatives-of t n₂)) ≡ first + all-registers (alternatives-of t n₁) (alternatives-of t n₂)
+    pub row-placed : Placed work₁ (row .two)
+    row-placed = placed (R .holds) (omega (arith, register-left, N .few, row-takes))
 
-pub all-numbers-begin : {t : List ℕ} (n₁ : ℕ) {n₂ count : ℕ} (first : ℕ) (work : List ℕ) → count ≡ length (alternatives-of t n₂)
-    → AllNumbers t n₁ n₂ first count work work first 0
-all-numbers-begin n₁ first work c = record { counted = c; turn = omega arith; long = refl; register = refl }
+    module _ {next : ℕ} (e : next ≡ row .two .register + registers-before work₁ (row .two) (row .two .steps)) where
+      pub row-ended : Ended work₁ (row .two) next
+      row-ended = record { placed = row-placed; behind = e }
 
-module _ {t : List ℕ} {n₁ n₂ first count : ℕ} {work₀ work : List ℕ} {r i : ℕ} (N : AllNumbers t n₁ n₂ first count work₀ work r i) where
-  module _ (h : i < count) where
-    pub row-next : drop i (alternatives-of t n₂) ≡ nth (alternatives-of t n₂) i ∷ drop (i + 1) (alternatives-of t n₂)
-    row-next = rest-of (alternatives-of t n₂) i (omega (arith, N .counted))
+      pub row-pairs-small : next + pairs-registers (pairs-of t row) ≤ 65536
+      row-pairs-small = omega (arith, register-left, N .few, row-takes, next-in (R .holds) e)
 
-    row-register-next : r + row-registers (alternatives-of t n₁) (nth (alternatives-of t n₂) i .steps)
-        + all-registers (alternatives-of t n₁) (drop (i + 1) (alternatives-of t n₂))
-        ≡ first + all-registers (alternatives-of t n₁) (alternatives-of t n₂)
-    unfolding all-registers
-    row-register-next = omega (arith, N .register, ap (all-registers (alternatives-of t n₁)) row-next)
+      pub all-numbers-on : {r₁ : ℕ} {work₂ : List ℕ} → r₁ ≡ next + pairs-registers (pairs-of t row) → length work₁ ≡ length work → length work₂ ≡ length work₁
+          → AllNumbers t o windows one two x count work₀ work₂ r₁ (i + 1)
+      all-numbers-on q f g = record {
+        rows = rows-on (N .rows) h work₁ f g;
+        few = N .few;
+        register = omega (arith, q, register-left, row-takes, next-in (R .holds) e);
+      }
 
-    pub all-numbers-small : first + all-registers (alternatives-of t n₁) (alternatives-of t n₂) ≤ 65536
-        → r + row-registers (alternatives-of t n₁) (nth (alternatives-of t n₂) i .steps) ≤ 65536
-    all-numbers-small small = omega (arith, row-register-next)
-
-    pub all-numbers-on : {work₁ : List ℕ} {r₁ : ℕ} → length work₁ ≡ length work
-        → r₁ ≡ r + row-registers (alternatives-of t n₁) (nth (alternatives-of t n₂) i .steps)
-        → AllNumbers t n₁ n₂ first count work₀ work₁ r₁ (i + 1)
-    all-numbers-on same e = record { counted = N .counted; turn = omega (arith, N .counted); long = same ∙ N .long; register = rw e row-register-next }
-
-  pub no-row-left : count ≤ i → drop i (alternatives-of t n₂) ≡ []
-  no-row-left h = drop-of-length-le (alternatives-of t n₂) {i = i} (omega (arith, N .counted))
+      pub row-numbers : {r₁ : ℕ} → r₁ ≡ next + pairs-registers (pairs-of t row) → r₁ ≡ r + row-registers (alternatives-of t one) (chosen t two i)
+      row-numbers q = omega (arith, q, row-takes, next-in (R .holds) e)

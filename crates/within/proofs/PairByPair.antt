@@ -1,99 +1,131 @@
--- The words of a within, pair by pair: its assignments, then its match. From the definitions of the source's functions on
--- expressions; nothing is assumed.
+-- The words of a within, pair by pair: its assignments, then its match; and its registers, added up. From the definitions of the source's
+-- functions on expressions, where no alternative has a guard: 9 came first.
 use mathlib.Core.Path.{_≡_, refl, sym, ap, ap₂, _∙_}
-use mathlib.Core.Bool.{Bool, true, false}
+use mathlib.Core.Bool.{Bool, true, false, not}
 use mathlib.Core.List.{List, [], _∷_, _++_, append-nil, append-assoc}
-use Prim.Native.Nat.{ℕ, zero, suc, _+_, _-_, _<_}
+use Prim.Native.Nat.{ℕ, zero, suc, _+_, _<_}
 use native.Mathlib.Nat.{add-zero}
 use native.Mathlib.Omega.{arith}
 use lib.Dec.{leb}
 use lib.ListN.{length, length-append}
-use borrow.Author.Tests.{ne-eqb}
-use Rattle.words.specs.Choice.{pick, pick-false}
-use Rattle.meaning.specs.Expression.{Expr, r·, or·, Synth}
-use Rattle.meaning.specs.Alternative.{SeqAlt}
-use Rattle.meaning.specs.Root.{Signals, window-len, slide, fitting-pair, pairs, all-pairs, or-all, one-of, synth-within}
+use borrow.Author.Tests.{ne-eqb, not-true}
+use Rattle.words.specs.Choice.{pick, pick-false, pick-cong}
+use Rattle.words.proofs.Taken.{both-hold, false-is-not-true}
+use Rattle.meaning.specs.Expression.{Expr, r·, and·, or·, seq, Synth, synth, chained}
+use Rattle.meaning.specs.Alternative.{Guard, unguarded, guard, SeqAlt}
+use Rattle.meaning.specs.Refusals.{has-guard, plain, guarded, within-fits}
+use Rattle.meaning.specs.Root.{Signals, signals, window-len, slide, pairs, all-pairs, or-all, one-of, synth-within}
 use Rattle.meaning.specs.Listing.{word, expression-words, store-words}
-use Rattle.meaning.specs.declared.SeqStep.{SeqStep}
 use Rattle.meaning.proofs.Emitted.{some-words, store-words-append}
+use Rattle.meaning.proofs.Uses.{Each}
+use Rattle.step_text.specs.Text.{register-word, and-word, or-word, store-word}
 use Rattle.pipeline.specs.Stores.{delay-store-words}
-use Rattle.pair.specs.Pairs.{alternative-synth, stores-in, text-in, fits-in, further, delay-texts, pair-registers, pair-stores, pair-text, joining, taken-registers, taken-stores, taken-text}
-use Rattle.within.specs.AllPairs.{pairs-stores, pairs-texts, row-registers, row-stores, row-texts, all-stores, all-texts, or-zero, within-words}
-use Rattle.within.proofs.RegisterSums.{registers-from-any-number, pair-count, pairs-count}
+use Rattle.alternative.specs.Alternatives.{alternative-synth, stores-in, text-in}
+use Rattle.alternative.proofs.Laws.{as-many-registers}
+use Rattle.pair.specs.Pairs.{Fitted, delay-texts, joining, pair-registers, pair-stores, pair-text}
+use Rattle.within.specs.AllPairs.{fit, fitting, pairs-registers, pairs-stores, pairs-texts, beside, row-registers, row-stores, row-texts, all-registers, all-stores, all-texts, or-zero, within-words}
 
--- The delays of a pair: their assignments, and their registers ORed to what is delayed.
-pub slide-stores : (n d : ℕ) (acc cur : Expr) → store-words n (slide n d acc cur .stores) ≡ delay-store-words [] n d (expression-words cur)
-unfolding delay-store-words
-slide-stores n zero acc cur = refl
-slide-stores n (suc d) acc cur =
-    ap (λ (l : List ℕ). expression-words cur ++ (word 9 n ∷ l)) (slide-stores (suc n) d (or· acc (r· n)) (r· n))
+-- No alternative has a guard.
+abbrev pub Bare : SeqAlt → Type 0
+Bare y = y .guard ≡ unguarded
 
-pub slide-text : (n d : ℕ) (acc cur : Expr) → expression-words (slide n d acc cur .cur) ≡ expression-words acc ++ delay-texts n d
-unfolding delay-texts
-slide-text n zero acc cur = sym (append-nil (expression-words acc))
-slide-text n (suc d) acc cur =
-    slide-text (suc n) d (or· acc (r· n)) (r· n) ∙ append-assoc (expression-words acc) (word 2 n ∷ word 8 0 ∷ []) (delay-texts (suc n) d)
-
--- A pair that fits.
-module _ (l : ℕ) (match-2 : Expr) (s₁ : List SeqStep) (n : ℕ) where
-  abbrev o : Synth
-  o = alternative-synth s₁ n
-
-  abbrev d : ℕ
-  d = l - window-len s₁
-
-  pub the-stores-of-a-pair : store-words n (fitting-pair l match-2 s₁ n .stores) ≡ pair-stores l s₁ n
-  unfolding pair-stores stores-in text-in further
-  the-stores-of-a-pair =
-      store-words-append n (o .stores) (slide (n + length (o .stores)) d (o .cur) (o .cur) .stores)
-      ∙ ap (λ (ws : List ℕ). store-words n (o .stores) ++ ws)
-      (slide-stores (n + length (o .stores)) d (o .cur) (o .cur)
-      ∙ ap (λ (k : ℕ). delay-store-words [] (n + k) d (expression-words (o .cur))) (registers-from-any-number s₁ n))
-
-  pub the-text-of-a-pair : expression-words (fitting-pair l match-2 s₁ n .cur) ≡ pair-text l (expression-words match-2) s₁ n
-  unfolding pair-text text-in further
-  the-text-of-a-pair =
-      ap (λ (ws : List ℕ). expression-words match-2 ++ ws)
-      (ap (λ (ws : List ℕ). ws ++ (word 7 0 ∷ []))
-      (slide-text (n + length (o .stores)) d (o .cur) (o .cur)
-      ∙ ap (λ (k : ℕ). expression-words (o .cur) ++ delay-texts (n + k) d) (registers-from-any-number s₁ n))
-      ∙ append-assoc (expression-words (o .cur)) _ _)
-
--- The assignments of the pairs of one alternative of seq2.
-stored-if-taken : (b : Bool) (taken skipped : Signals) (n : ℕ) (own : List ℕ) (k : ℕ) (rest : ℕ → List ℕ)
-    → store-words n (taken .stores) ≡ own ++ rest (n + k) → store-words n (skipped .stores) ≡ rest n
-    → store-words n (pick b taken skipped .stores) ≡ pick b own [] ++ rest (n + pick b k 0)
+no-guard : (g : Guard) {more : Bool} → pick (has-guard g) true more ≡ false → (g ≡ unguarded) × (more ≡ false)
 unfolding pick
-stored-if-taken true taken skipped n own k rest p q = p
-stored-if-taken false taken skipped n own k rest p q = rw add-zero q
+no-guard unguarded e = (refl, e)
+no-guard (guard x) e = absurd (false-is-not-true (sym e))
 
-pub the-stores-of-the-pairs : (l : ℕ) (match-2 : Expr) (xs : List SeqAlt) (n : ℕ) → store-words n (pairs l match-2 xs n .stores) ≡ pairs-stores l xs n
-unfolding pairs-stores taken-stores taken-registers fits-in
-the-stores-of-the-pairs l match-2 [] n = refl
-the-stores-of-the-pairs l match-2 (x ∷ xs) n =
-    let p = fitting-pair l match-2 (x .steps) n in
-    stored-if-taken (leb (window-len (x .steps)) l) _ _ n (pair-stores l (x .steps) n) (pair-registers l (x .steps)) (pairs-stores l xs)
-    (store-words-append n (p .stores) (pairs l match-2 xs (n + length (p .stores)) .stores)
-    ∙ rw (the-stores-of-a-pair l match-2 (x .steps) n, the-stores-of-the-pairs l match-2 xs (n + length (p .stores)), pair-count l match-2 (x .steps) n) refl)
-    (the-stores-of-the-pairs l match-2 xs n)
+each-bare : (ys : List SeqAlt) → guarded ys ≡ false → Each Bare ys
+each-bare [] e = tt
+each-bare (y ∷ ys) e = let (here, more) = no-guard (y .guard) e in (here, each-bare ys more)
 
--- The assignments of a within.
-pub the-stores-of-a-within : (xs ys : List SeqAlt) (n : ℕ) → store-words n (synth-within xs ys n .stores) ≡ all-stores xs ys n
-unfolding all-stores row-stores stores-in row-registers
-the-stores-of-a-within xs [] n = refl
-the-stores-of-a-within xs (y ∷ ys) n =
-    let l = window-len (y .steps) in
-    let o₂ = alternative-synth (y .steps) n in
-    let k = n + length (o₂ .stores) in
-    let p = pairs l (o₂ .cur) xs k in
-    store-words-append n (o₂ .stores) _
-    ∙ ap (λ (ws : List ℕ). store-words n (o₂ .stores) ++ ws)
-    (store-words-append k (p .stores) _
-    ∙ ap₂ (λ (vs ws : List ℕ). vs ++ ws) (the-stores-of-the-pairs l (o₂ .cur) xs k) (the-stores-of-a-within xs ys (k + length (p .stores))))
-    ∙ sym (append-assoc (store-words n (o₂ .stores)) _ _)
-    ∙ ap₂ (λ (i j : ℕ). (store-words n (o₂ .stores) ++ pairs-stores l xs i) ++ all-stores xs ys j)
-    (ap (λ (i : ℕ). n + i) (registers-from-any-number (y .steps) n))
-    (omega (arith, registers-from-any-number (y .steps) n, pairs-count l (o₂ .cur) xs k))
+pub all-bare : (ys : List SeqAlt) → within-fits ys ≡ true → Each Bare ys
+all-bare ys e = each-bare ys (not-true (guarded ys) (both-hold (plain ys) e .1))
+
+-- The delays of a pair: how many registers, their assignments, and their registers ORed to what is delayed.
+slide-count : (r d : ℕ) (acc cur : Expr) → length (slide r d acc cur .stores) ≡ d
+slide-count r zero acc cur = refl
+slide-count r (suc d) acc cur = ap suc (slide-count (suc r) d (or· acc (r· r)) (r· r))
+
+slide-stores : (r d : ℕ) (acc cur : Expr) → store-words r (slide r d acc cur .stores) ≡ delay-store-words [] r d (expression-words cur)
+unfolding delay-store-words
+slide-stores r zero acc cur = refl
+slide-stores r (suc d) acc cur =
+    ap (λ (ws : List ℕ). expression-words cur ++ (store-word seq r ∷ ws)) (slide-stores (suc r) d (or· acc (r· r)) (r· r))
+
+slide-text : (r d : ℕ) (acc cur : Expr) → expression-words (slide r d acc cur .cur) ≡ expression-words acc ++ delay-texts r d
+unfolding delay-texts
+slide-text r zero acc cur = sym (append-nil (expression-words acc))
+slide-text r (suc d) acc cur =
+    slide-text (suc r) d (or· acc (r· r)) (r· r) ∙ append-assoc (expression-words acc) (register-word r ∷ or-word ∷ []) (delay-texts (suc r) d)
+
+-- A pair.
+abbrev pair-synth : Expr → Fitted → ℕ → Synth
+pair-synth match-2 f r =
+    let o = chained r (alternative-synth (f .alternative) r) (λ next match-1. slide next (f .delays) match-1 match-1) in
+    synth (o .stores) (and· match-2 (o .cur))
+
+module _ (match-2 : Expr) (f : Fitted) (r : ℕ) where
+  abbrev own : Synth
+  own = alternative-synth (f .alternative) r
+
+  registers-of-a-pair : length (pair-synth match-2 f r .stores) ≡ pair-registers f
+  unfolding pair-registers
+  registers-of-a-pair =
+      length-append (own .stores) _
+      ∙ ap₂ (λ (i j : ℕ). i + j) (as-many-registers (f .alternative) r) (slide-count (r + length (own .stores)) (f .delays) (own .cur) (own .cur))
+
+  stores-of-a-pair : store-words r (pair-synth match-2 f r .stores) ≡ pair-stores f r
+  unfolding pair-stores stores-in text-in
+  stores-of-a-pair =
+      store-words-append r (own .stores) _
+      ∙ ap (λ (ws : List ℕ). store-words r (own .stores) ++ ws)
+      (slide-stores (r + length (own .stores)) (f .delays) (own .cur) (own .cur)
+      ∙ ap (λ (k : ℕ). delay-store-words [] (r + k) (f .delays) (expression-words (own .cur))) (as-many-registers (f .alternative) r))
+
+  text-of-a-pair : (before : ℕ) → expression-words (pair-synth match-2 f r .cur) ++ joining before ≡ pair-text before (expression-words match-2) f r
+  unfolding pair-text text-in
+  text-of-a-pair before =
+      ap (λ (ws : List ℕ). (expression-words match-2 ++ (ws ++ (and-word ∷ []))) ++ joining before)
+      (slide-text (r + length (own .stores)) (f .delays) (own .cur) (own .cur)
+      ∙ ap (λ (k : ℕ). expression-words (own .cur) ++ delay-texts (r + k) (f .delays)) (as-many-registers (f .alternative) r))
+      ∙ simp append-assoc
+
+-- The pairs of one alternative of seq2: those that the source takes are those that fit.
+pairs-synth : Expr → List Fitted → ℕ → Signals
+pairs-synth match-2 [] r = signals [] []
+pairs-synth match-2 (f ∷ fs) r =
+    let o = pair-synth match-2 f r in
+    let more = pairs-synth match-2 fs (r + length (o .stores)) in
+    signals (o .stores ++ more .stores) (o .cur ∷ more .curs)
+
+taken-or-not : (match-2 : Expr) (b : Bool) (f : Fitted) (fs : List Fitted) (r : ℕ)
+    → pick b (pairs-synth match-2 (f ∷ fs) r) (pairs-synth match-2 fs r) ≡ pairs-synth match-2 (pick b (f ∷ fs) fs) r
+unfolding pick
+taken-or-not match-2 true f fs r = refl
+taken-or-not match-2 false f fs r = refl
+
+the-pairs-that-fit : (l : ℕ) (match-2 : Expr) (ys : List SeqAlt) (r : ℕ) → Each Bare ys → pairs l match-2 ys r ≡ pairs-synth match-2 (fitting l ys) r
+unfolding fitting pairs-synth
+the-pairs-that-fit l match-2 [] r B = refl
+the-pairs-that-fit l match-2 (y ∷ ys) r B =
+    pick-cong (leb (window-len (y .steps)) l)
+    (λ yes. rw (← B .0, the-pairs-that-fit l match-2 ys _ (B .1)) refl)
+    (λ no. the-pairs-that-fit l match-2 ys r (B .1))
+    ∙ taken-or-not match-2 (leb (window-len (y .steps)) l) (fit l y) (fitting l ys) r
+
+registers-of-pairs : (match-2 : Expr) (fs : List Fitted) (r : ℕ) → length (pairs-synth match-2 fs r .stores) ≡ pairs-registers fs
+unfolding pairs-registers pairs-synth
+registers-of-pairs match-2 [] r = refl
+registers-of-pairs match-2 (f ∷ fs) r =
+    length-append (pair-synth match-2 f r .stores) _ ∙ ap₂ (λ (i j : ℕ). i + j) (registers-of-a-pair match-2 f r) (registers-of-pairs match-2 fs _)
+
+stores-of-pairs : (match-2 : Expr) (fs : List Fitted) (r : ℕ) → store-words r (pairs-synth match-2 fs r .stores) ≡ pairs-stores fs r
+unfolding pairs-stores pairs-synth
+stores-of-pairs match-2 [] r = refl
+stores-of-pairs match-2 (f ∷ fs) r =
+    store-words-append r (pair-synth match-2 f r .stores) _
+    ∙ ap₂ (λ (vs ws : List ℕ). vs ++ ws) (stores-of-a-pair match-2 f r)
+    (stores-of-pairs match-2 fs _ ∙ ap (λ (k : ℕ). pairs-stores fs (r + k)) (registers-of-a-pair match-2 f r))
 
 -- The texts of several pairs, each joined to those before, of which so many words stand there already.
 joined : ℕ → List Expr → List ℕ
@@ -110,49 +142,80 @@ joined-append before (e ∷ es) fs =
     ∙ ap (λ (k : ℕ). (here ++ joined (before + length here) es) ++ joined k fs)
     (omega (arith, length-append here (joined (before + length here) es)))
 
--- The texts of the pairs of one alternative of seq2.
-joined-if-taken : (b : Bool) (taken skipped : Signals) (before : ℕ) (own : List ℕ) (n k : ℕ) (rest : ℕ → ℕ → List ℕ)
-    → joined before (taken .curs) ≡ own ++ rest (before + length own) (n + k) → joined before (skipped .curs) ≡ rest before n
-    → joined before (pick b taken skipped .curs) ≡ pick b own [] ++ rest (before + length (pick b own [])) (n + pick b k 0)
-unfolding pick
-joined-if-taken true taken skipped before own n k rest p q = p
-joined-if-taken false taken skipped before own n k rest p q = q ∙ ap₂ rest (sym (add-zero before)) (sym (add-zero n))
+texts-of-pairs : (before : ℕ) (match-2 : Expr) (fs : List Fitted) (r : ℕ)
+    → joined before (pairs-synth match-2 fs r .curs) ≡ pairs-texts before (expression-words match-2) fs r
+unfolding pairs-texts pairs-synth joined
+texts-of-pairs before match-2 [] r = refl
+texts-of-pairs before match-2 (f ∷ fs) r =
+    let next = r + length (pair-synth match-2 f r .stores) in
+    let here = pair-text before (expression-words match-2) f r in
+    ap (λ (ws : List ℕ). ws ++ joined (before + length ws) (pairs-synth match-2 fs next .curs)) (text-of-a-pair match-2 f r before)
+    ∙ ap (λ (ws : List ℕ). here ++ ws)
+    (texts-of-pairs (before + length here) match-2 fs next
+    ∙ ap (λ (k : ℕ). pairs-texts (before + length here) (expression-words match-2) fs (r + k)) (registers-of-a-pair match-2 f r))
 
-the-texts-of-the-pairs : (before l : ℕ) (match-2 : Expr) (xs : List SeqAlt) (n : ℕ)
-    → joined before (pairs l match-2 xs n .curs) ≡ pairs-texts before l (expression-words match-2) xs n
-unfolding pairs-texts taken-text taken-registers fits-in joined
-the-texts-of-the-pairs before l match-2 [] n = refl
-the-texts-of-the-pairs before l match-2 (x ∷ xs) n =
-    let p = fitting-pair l match-2 (x .steps) n in
-    let own = pair-text l (expression-words match-2) (x .steps) n ++ joining before in
-    joined-if-taken (leb (window-len (x .steps)) l) _ _ before own n (pair-registers l (x .steps))
-    (λ (b m : ℕ). pairs-texts b l (expression-words match-2) xs m)
-    (ap (λ (ws : List ℕ). (ws ++ joining before) ++ joined (before + length (ws ++ joining before)) (pairs l match-2 xs (n + length (p .stores)) .curs))
-    (the-text-of-a-pair l match-2 (x .steps) n)
-    ∙ ap (λ (ws : List ℕ). own ++ ws)
-    (the-texts-of-the-pairs (before + length own) l match-2 xs (n + length (p .stores))
-    ∙ ap (λ (k : ℕ). pairs-texts (before + length own) l (expression-words match-2) xs (n + k)) (pair-count l match-2 (x .steps) n)))
-    (the-texts-of-the-pairs before l match-2 xs n)
+-- One alternative of seq2 and its pairs; then all of seq2's.
+module _ (xs : List SeqAlt) (X : Each Bare xs) where
+  abbrev row-synth : SeqAlt → ℕ → Signals
+  row-synth y r = let o = alternative-synth y r in pairs-synth (o .cur) (beside xs y) (r + length (o .stores))
 
--- .. of all of them.
-the-texts-of-all-pairs : (before : ℕ) (xs ys : List SeqAlt) (n : ℕ) → joined before (all-pairs xs ys n .curs) ≡ all-texts before xs ys n
-unfolding all-texts row-texts text-in row-registers joined
-the-texts-of-all-pairs before xs [] n = refl
-the-texts-of-all-pairs before xs (y ∷ ys) n =
-    let l = window-len (y .steps) in
-    let o₂ = alternative-synth (y .steps) n in
-    let k = n + length (o₂ .stores) in
-    let p = pairs l (o₂ .cur) xs k in
-    let here = pairs-texts before l (expression-words (o₂ .cur)) xs k in
-    joined-append before (p .curs) _
-    ∙ ap (λ (ws : List ℕ). ws ++ joined (before + length ws) (all-pairs xs ys (k + length (p .stores)) .curs)) (the-texts-of-the-pairs before l (o₂ .cur) xs k)
-    ∙ ap (λ (ws : List ℕ). here ++ ws) (the-texts-of-all-pairs (before + length here) xs ys (k + length (p .stores)))
-    ∙ ap₂ (λ (i j : ℕ). let w = pairs-texts before l (expression-words (o₂ .cur)) xs i in w ++ all-texts (before + length w) xs ys j)
-    (ap (λ (i : ℕ). n + i) (registers-from-any-number (y .steps) n))
-    (omega (arith, registers-from-any-number (y .steps) n, pairs-count l (o₂ .cur) xs k))
+  rows-are : (y : SeqAlt) (ys : List SeqAlt) (r : ℕ) → Bare y
+      → all-pairs xs (y ∷ ys) r
+      ≡ (let o = alternative-synth y r in
+      let p = row-synth y r in
+      let q = all-pairs xs ys (r + length (o .stores) + length (p .stores)) in
+      signals (o .stores ++ (p .stores ++ q .stores)) (p .curs ++ q .curs))
+  rows-are y ys r bare = rw (← bare, the-pairs-that-fit (window-len (y .steps)) _ xs _ X) refl
+
+  row-count : (y : SeqAlt) (r : ℕ) → r + length (alternative-synth y r .stores) + length (row-synth y r .stores) ≡ r + row-registers xs y
+  unfolding row-registers
+  row-count y r = omega (arith, as-many-registers y r, registers-of-pairs (alternative-synth y r .cur) (beside xs y) (r + length (alternative-synth y r .stores)))
+
+  count-of-rows : (ys : List SeqAlt) (r : ℕ) → Each Bare ys → length (all-pairs xs ys r .stores) ≡ all-registers xs ys
+  unfolding all-registers
+  count-of-rows [] r B = refl
+  count-of-rows (y ∷ ys) r B =
+      let o = alternative-synth y r in
+      let p = row-synth y r in
+      ap (λ (s : Signals). length (s .stores)) (rows-are y ys r (B .0))
+      ∙ length-append (o .stores) _
+      ∙ ap (λ (k : ℕ). length (o .stores) + k) (length-append (p .stores) _)
+      ∙ omega (arith, row-count y r, count-of-rows ys (r + length (o .stores) + length (p .stores)) (B .1))
+
+  stores-of-rows : (ys : List SeqAlt) (r : ℕ) → Each Bare ys → store-words r (all-pairs xs ys r .stores) ≡ all-stores xs ys r
+  unfolding all-stores row-stores stores-in
+  stores-of-rows [] r B = refl
+  stores-of-rows (y ∷ ys) r B =
+      let o = alternative-synth y r in
+      let k = r + length (o .stores) in
+      let p = row-synth y r in
+      ap (λ (s : Signals). store-words r (s .stores)) (rows-are y ys r (B .0))
+      ∙ store-words-append r (o .stores) _
+      ∙ ap (λ (ws : List ℕ). store-words r (o .stores) ++ ws)
+      (store-words-append k (p .stores) _ ∙ ap₂ (λ (vs ws : List ℕ). vs ++ ws) (stores-of-pairs (o .cur) (beside xs y) k) (stores-of-rows ys (k + length (p .stores)) (B .1)))
+      ∙ sym (append-assoc (store-words r (o .stores)) _ _)
+      ∙ ap₂ (λ (i j : ℕ). (store-words r (o .stores) ++ pairs-stores (beside xs y) i) ++ all-stores xs ys j)
+      (ap (λ (i : ℕ). r + i) (as-many-registers y r))
+      (row-count y r)
+
+  texts-of-rows : (before : ℕ) (ys : List SeqAlt) (r : ℕ) → Each Bare ys → joined before (all-pairs xs ys r .curs) ≡ all-texts before xs ys r
+  unfolding all-texts row-texts text-in joined
+  texts-of-rows before [] r B = refl
+  texts-of-rows before (y ∷ ys) r B =
+      let o = alternative-synth y r in
+      let k = r + length (o .stores) in
+      let p = row-synth y r in
+      let here = pairs-texts before (expression-words (o .cur)) (beside xs y) k in
+      ap (λ (s : Signals). joined before (s .curs)) (rows-are y ys r (B .0))
+      ∙ joined-append before (p .curs) _
+      ∙ ap (λ (ws : List ℕ). ws ++ joined (before + length ws) (all-pairs xs ys (k + length (p .stores)) .curs)) (texts-of-pairs before (o .cur) (beside xs y) k)
+      ∙ ap (λ (ws : List ℕ). here ++ ws) (texts-of-rows (before + length here) ys (k + length (p .stores)) (B .1))
+      ∙ ap₂ (λ (i j : ℕ). let w = pairs-texts before (expression-words (o .cur)) (beside xs y) i in w ++ all-texts (before + length w) xs ys j)
+      (ap (λ (i : ℕ). r + i) (as-many-registers y r))
+      (row-count y r)
 
 -- Behind some words every pair is joined by an OR.
-joins : (before : ℕ) → 0 < before → joining before ≡ word 8 0 ∷ []
+joins : (before : ℕ) → 0 < before → joining before ≡ or-word ∷ []
 unfolding joining
 joins before some = pick-false _ _ (ne-eqb before 0 (λ e. omega arith))
 
@@ -162,7 +225,7 @@ or-all-words before acc [] some = sym (append-nil (expression-words acc))
 or-all-words before acc (e ∷ es) some =
     let here = expression-words e ++ joining before in
     or-all-words (before + length here) (or· acc e) es (omega arith)
-    ∙ append-assoc (expression-words acc) (expression-words e ++ (word 8 0 ∷ [])) _
+    ∙ append-assoc (expression-words acc) (expression-words e ++ (or-word ∷ [])) _
     ∙ ap (λ (ws : List ℕ). expression-words acc ++ ((expression-words e ++ ws) ++ joined (before + length here) es)) (sym (joins before some))
 
 -- Some words are not replaced by 0.
@@ -179,11 +242,17 @@ one-of-words (e ∷ es) =
     or-all-words (length first) e es (some-words e)
     ∙ sym (ap or-zero whole ∙ words-stay (first ++ joined (length first) es) (omega (arith, length-append first (joined (length first) es), some-words e)))
 
--- The match of a within.
-pub the-match-of-a-within : (xs ys : List SeqAlt) (n : ℕ) → expression-words (synth-within xs ys n .cur) ≡ or-zero (all-texts 0 xs ys n)
-the-match-of-a-within xs ys n = one-of-words (all-pairs xs ys n .curs) ∙ ap or-zero (the-texts-of-all-pairs 0 xs ys n)
+-- A within: its registers, and its whole listing: assignments, match, and the match's own word.
+module _ (xs ys : List SeqAlt) (one : within-fits xs ≡ true) (two : within-fits ys ≡ true) (r : ℕ) where
+  pub the-registers-of-a-within : length (synth-within xs ys r .stores) ≡ all-registers xs ys
+  the-registers-of-a-within = count-of-rows xs (all-bare xs one) ys r (all-bare ys two)
 
--- The whole listing: assignments, match, and the match's own word.
-pub the-listing-of-a-within : (xs ys : List SeqAlt) (n : ℕ) → within-words xs ys n ≡ all-stores xs ys n ++ (or-zero (all-texts 0 xs ys n) ++ (word 14 0 ∷ []))
-unfolding within-words
-the-listing-of-a-within xs ys n = rw (the-stores-of-a-within xs ys n, the-match-of-a-within xs ys n) refl
+  pub the-listing-of-a-within : within-words xs ys r ≡ all-stores xs ys r ++ (or-zero (all-texts 0 xs ys r) ++ (word 14 0 ∷ []))
+  unfolding within-words
+  the-listing-of-a-within =
+      rw (
+        stores-of-rows xs (all-bare xs one) ys r (all-bare ys two),
+        one-of-words (all-pairs xs ys r .curs),
+        texts-of-rows xs (all-bare xs one) 0 ys r (all-bare ys two),
+      )
+      refl

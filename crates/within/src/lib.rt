@@ -1,397 +1,299 @@
 // A root within (`synth_within` of the source): every alternative of seq2, and beside it every alternative of seq1 that fits.
-// Alternatives are numbered and never stored together: each pass writes one of seq2 into the front of work and, behind it, one
-// of seq1 after the other. So no expression is kept, and nothing is written into the output before its size is known.
-// Only the windows of seq1's alternatives are kept, measured once in each call: where few of up to 256 pairs fit, the others are
-// skipped before their steps are written.
+// Alternatives are numbered and never stored together: each pass keeps one of seq2 in front of work, a row, and behind it one of seq1 after the
+// other. So no expression is stored, and nothing is written into the output before its size is known.
+// Only the windows of seq1's alternatives are stored, measured once in each call: where few of up to 256 pairs fit, the others are skipped before
+// they are kept.
 //
 // Example: `a within (b ##1 c)` has one pair. The passes count 2 registers and 16 words, write `a1 any seq0`, then
 // `a0 any seq1`, then `r0 a2 any and a0 any r1 or and`, and end the match.
+use meaning::word;
 ghost use mathlib.Core.Path.{_≡_};
 ghost use Prim.Native.Nat.{_+_, _-_, _*_, _≤_, _<_};
-ghost use lib.ListN.{length, «take»};
+ghost use lib.ListN.{length, getD};
 ghost use Rattle.words.specs.Written.{Wrote};
-ghost use Rattle.expand.specs.ByNumber.{alternatives-of, «nth»};
-ghost use Rattle.choice.specs.Passes.{Marked};
-ghost use Rattle.pair.specs.Stored.{steps-in, Kept};
-ghost use Rattle.pair.specs.Pairs.{registers-in, text-in, taken-registers, taken-stores, taken-text};
-ghost use Rattle.pair.specs.Sizes.{taken-size};
-ghost use Rattle.within.specs.AllPairs.{pairs-registers, pairs-stores, pairs-texts, row-registers, row-stores, row-texts, all-registers, all-stores, all-texts, or-zero, within-words};
-ghost use Rattle.within.specs.AllSizes.{«plus», pairs-size, row-size, all-size, match-size, words-in};
-ghost use Rattle.within.specs.Rows.{Placed, Paired, Windows};
+ghost use Rattle.expand.specs.ByNumber.{alternatives-of};
+ghost use Rattle.alternative.specs.Keeping.{chosen, Keepable, Ended};
+ghost use Rattle.pair.specs.Pairs.{most-pair-registers};
+ghost use Rattle.pair.specs.Sizes.{longest-text};
+ghost use Rattle.within.specs.AllPairs.{fits-from, pairs-registers, pairs-stores, all-registers, all-stores, all-texts, within-match, within-words};
+ghost use Rattle.within.specs.AllSizes.{«plus», pairs-size, all-size, match-size, longest-match, AtMost};
+ghost use Rattle.within.specs.Rows.{Paired, Numberable, Windows, Rowed, Rowing, Beside, pairs-of, texts-of, Onward};
 
-// 01's operation that ends the match.
-const MATCH: u32 = 14 * step_text::ATOM;
+// One alternative of seq2, kept in front of work, with its window; and the node of seq1.
+struct Row {
+    two: term::Kept,
+    window: u64,
+    one: u32,
+}
 
 // Puts the window of each alternative of seq1, by its number.
-fn put_windows(t: &[u32], outline: &[u32], n1: u32, work: &mut [u32], windows: &mut [u64])
-    requires { ⌜ Placed (now t) (now outline) n1 0 (length (now work)) × (256 ≤ length (now windows)) ⌝ }
-    ensures { λ _. ⌜ Windows (now (t .entry)) (now (windows .exit)) n1 ⌝ }
+fn put_windows(t: &[u32], outline: &[u32], one: u32, work: &mut [u32], windows: &mut [u64])
+    requires { ⌜ Keepable (now t) (now outline) one 0 (length (now work)) × (256 ≤ length (now windows)) ⌝ }
+    ensures { λ _. ⌜ Windows (now (t .entry)) (now (windows .exit)) one ⌝ }
 {
-    let count = expand::count_of(outline, n1);
+    let count = outline::count_of(outline, one);
     let mut j = 0;
     while j < count {
-        let end = expand::alternative(t, outline, n1, j, meaning::SeqHop::Fixed(0), work, 0);
-        windows[j as usize] = pair::window_len(&work[..end]);
+        let kept = alternative::keep(t, outline, one, j, 0, work, 0);
+        windows[j as usize] = pair::window_len(work, kept);
         j += 1;
     }
 }
 
-// The registers of the j-th alternative of seq1 beside one of seq2, whose window is l and whose steps end at the place.
-fn nth_pair_registers(
+// The lowest number from j on of an alternative whose window is not above l, or how many there are.
+fn next_fitting(windows: &[u64], count: u32, l: u64, j: u32) -> u32
+    requires { ⌜ (count ≤ length (now windows)) × (j ≤ count) ⌝ }
+    ensures { λ r. ⌜ r ≡ fits-from (now (windows .entry)) l j (count - j) ⌝ }
+{
+    let mut i = j;
+    while i < count {
+        if windows[i as usize] <= l {
+            return i;
+        }
+        i += 1;
+    }
+    i
+}
+
+// Keeps the i-th alternative of seq2, with registers from r on.
+fn row_of(t: &[u32], outline: &[u32], one: u32, two: u32, i: u32, r: u32, work: &mut [u32]) -> Row
+    requires { ⌜ Paired (now t) (now outline) one two (length (now work)) × (i < length (alternatives-of (now t) two)) ⌝ }
+    ensures { λ row. ⌜ Rowed (now (t .entry)) (now (outline .entry)) one (chosen (now (t .entry)) two i) r (now (work .exit)) row ⌝ }
+    ensures long { λ _. ⌜ length (now (work .exit)) ≡ length (now (work .entry)) ⌝ }
+{
+    let kept = alternative::keep(t, outline, two, i, r, work, 0);
+    let l = pair::window_len(work, kept);
+    Row {
+        two: kept,
+        window: l,
+        one: one,
+    }
+}
+
+// Keeps the j-th alternative of seq1, which fits, behind the row's, with registers from r on.
+fn beside(
     t: &[u32],
     outline: &[u32],
     windows: &[u64],
-    n1: u32,
+    row: Row,
     j: u32,
-    l: u64,
-    place: usize,
+    r: u32,
     work: &mut [u32],
-) -> u64
-    requires { ⌜ Placed (now t) (now outline) n1 place (length (now work)) × Windows (now t) (now windows) n1 × (j < length (alternatives-of (now t) n1)) × (l ≤ 281474976710656) ⌝ }
-    ensures { λ r. ⌜ r ≡ taken-registers l (nth (alternatives-of (now (t .entry)) n1) j .steps) ⌝ }
-    ensures small { λ r. ⌜ r ≤ 844424930131968 ⌝ }
+) -> pair::Pair
+    requires { ⌜ Rowing (now t) (now outline) (now windows) row (now work) × (j < length (alternatives-of (now t) (row .one))) × (getD (now windows) j 0 ≤ row .window) ⌝ }
+    ensures { λ p. ⌜ Beside (chosen (now (t .entry)) (row .one) j) row r (now (work .entry)) (now (work .exit)) p ⌝ }
 {
-    if l < windows[j as usize] {
-        return 0;
+    let two = row.two;
+    let kept = alternative::keep(t, outline, row.one, j, r, work, two.end);
+    let d = row.window - windows[j as usize];
+    pair::Pair {
+        one: kept,
+        two: two,
+        delays: d,
     }
-    let end = expand::alternative(t, outline, n1, j, meaning::SeqHop::Fixed(0), work, place);
-    pair::pair_registers(&work[place..end], l)
 }
 
-// The registers of all of them.
-fn pairs_registers(
-    t: &[u32],
-    outline: &[u32],
-    windows: &[u64],
-    n1: u32,
-    l: u64,
-    place: usize,
-    work: &mut [u32],
-) -> u64
-    requires { ⌜ Placed (now t) (now outline) n1 place (length (now work)) × Windows (now t) (now windows) n1 × (l ≤ 281474976710656) ⌝ }
-    ensures { λ r. ⌜ r ≡ pairs-registers l (alternatives-of (now (t .entry)) n1) ⌝ }
-    ensures small { λ r. ⌜ r ≤ length (alternatives-of (now (t .entry)) n1) * 844424930131968 ⌝ }
+// The registers of the pairs of a row.
+fn pairs_registers(t: &[u32], outline: &[u32], windows: &[u64], row: Row, work: &mut [u32]) -> u64
+    requires { ⌜ Rowing (now t) (now outline) (now windows) row (now work) ⌝ }
+    ensures { λ r. ⌜ r ≡ pairs-registers (pairs-of (now (t .entry)) row) ⌝ }
+    ensures small { λ r. ⌜ r ≤ length (alternatives-of (now (t .entry)) (row .one)) * most-pair-registers ⌝ }
 {
-    let count = expand::count_of(outline, n1);
+    let count = outline::count_of(outline, row.one);
     let mut total: u64 = 0;
-    let mut j = 0;
+    let mut j = next_fitting(windows, count, row.window, 0);
     while j < count {
-        total += nth_pair_registers(t, outline, windows, n1, j, l, place, work);
-        j += 1;
+        let both = beside(t, outline, windows, row, j, 0, work);
+        total += pair::registers(work, both);
+        j = next_fitting(windows, count, row.window, j + 1);
     }
     total
 }
 
-// The registers of the i-th alternative of seq2 and of its pairs.
-fn row_registers(
-    t: &[u32],
-    outline: &[u32],
-    windows: &[u64],
-    n1: u32,
-    n2: u32,
-    i: u32,
-    work: &mut [u32],
-) -> u64
-    requires { ⌜ Paired (now t) (now outline) n1 n2 (length (now work)) × Windows (now t) (now windows) n1 × (i < length (alternatives-of (now t) n2)) ⌝ }
-    ensures { λ r. ⌜ r ≡ row-registers (alternatives-of (now (t .entry)) n1) (nth (alternatives-of (now (t .entry)) n2) i .steps) ⌝ }
-    ensures small { λ r. ⌜ r ≤ (length (alternatives-of (now (t .entry)) n1) + 1) * 844424930131968 ⌝ }
-{
-    let end = expand::alternative(t, outline, n2, i, meaning::SeqHop::Fixed(0), work, 0);
-    let two = &work[..end];
-    let l = pair::window_len(two);
-    let own = pair::registers_of(two);
-    own + pairs_registers(t, outline, windows, n1, l, end, work)
-}
-
-// The registers of all alternatives of seq2 and of their pairs.
+// The registers of all rows and of their pairs.
 fn all_registers(
     t: &[u32],
     outline: &[u32],
     windows: &[u64],
-    n1: u32,
-    n2: u32,
+    one: u32,
+    two: u32,
     work: &mut [u32],
 ) -> u64
-    requires { ⌜ Paired (now t) (now outline) n1 n2 (length (now work)) × Windows (now t) (now windows) n1 ⌝ }
-    ensures { λ r. ⌜ r ≡ all-registers (alternatives-of (now (t .entry)) n1) (alternatives-of (now (t .entry)) n2) ⌝ }
+    requires { ⌜ Paired (now t) (now outline) one two (length (now work)) × Windows (now t) (now windows) one ⌝ }
+    ensures { λ r. ⌜ r ≡ all-registers (alternatives-of (now (t .entry)) one) (alternatives-of (now (t .entry)) two) ⌝ }
 {
-    let count = expand::count_of(outline, n2);
+    let count = outline::count_of(outline, two);
     let mut total: u64 = 0;
     let mut i = 0;
     while i < count {
-        total += row_registers(t, outline, windows, n1, n2, i, work);
+        let row = row_of(t, outline, one, two, i, 0, work);
+        let own = alternative::registers(work, row.two);
+        total += own + pairs_registers(t, outline, windows, row, work);
         i += 1;
     }
     total
 }
 
 // All registers of a within: those of seq2's alternatives, of seq1's in every pair that fits, and of the delays.
-pub fn registers(t: &[u32], outline: &[u32], n1: u32, n2: u32, work: &mut [u32]) -> u64
-    requires { ⌜ Paired (now t) (now outline) n1 n2 (length (now work)) ⌝ }
-    ensures { λ r. ⌜ r ≡ all-registers (alternatives-of (now (t .entry)) n1) (alternatives-of (now (t .entry)) n2) ⌝ }
+pub fn registers(t: &[u32], outline: &[u32], one: u32, two: u32, work: &mut [u32]) -> u64
+    requires { ⌜ Paired (now t) (now outline) one two (length (now work)) ⌝ }
+    ensures { λ r. ⌜ r ≡ all-registers (alternatives-of (now (t .entry)) one) (alternatives-of (now (t .entry)) two) ⌝ }
 {
     let mut windows = [0u64; 256];
-    put_windows(t, outline, n1, work, &mut windows);
-    all_registers(t, outline, &windows, n1, n2, work)
+    put_windows(t, outline, one, work, &mut windows);
+    all_registers(t, outline, &windows, one, two, work)
 }
 
-// The assignments of the j-th alternative of seq1 beside one of seq2 whose window is l.
-fn nth_pair_stores(
-    t: &[u32],
-    outline: &[u32],
-    windows: &[u64],
-    n1: u32,
-    j: u32,
-    l: u64,
-    n: u32,
-    place: usize,
-    work: &mut [u32],
-    out: &mut [u32],
-    at: usize,
-) -> choice::Mark
-    requires { ⌜ Placed (now t) (now outline) n1 place (length (now work)) × Windows (now t) (now windows) n1 × (j < length (alternatives-of (now t) n1)) × (l ≤ 281474976710656) × (n + taken-registers l (nth (alternatives-of (now t) n1) j .steps) ≤ 65536) × (at + length (taken-stores l (nth (alternatives-of (now t) n1) j .steps) n) ≤ length (now out)) ⌝ }
-    ensures { λ m. ⌜ Marked (now (out .entry)) (now (out .exit)) at m (taken-stores l (nth (alternatives-of (now (t .entry)) n1) j .steps) n) (n + taken-registers l (nth (alternatives-of (now (t .entry)) n1) j .steps)) ⌝ }
-{
-    if l < windows[j as usize] {
-        return choice::Mark {
-            place: at,
-            register: n,
-        };
-    }
-    let end = expand::alternative(t, outline, n1, j, meaning::SeqHop::Fixed(0), work, place);
-    let one = &work[place..end];
-    let r = pair::pair_registers(one, l);
-    let p = pair::pair_stores(one, l, n, out, at);
-    choice::Mark {
-        place: p,
-        register: n + r as u32,
-    }
-}
-
-// The assignments of all of them.
+// Puts the assignments of the pairs of a row.
 fn pairs_stores(
     t: &[u32],
     outline: &[u32],
     windows: &[u64],
-    n1: u32,
-    l: u64,
-    n: u32,
-    place: usize,
+    row: Row,
+    from: pair::Mark,
     work: &mut [u32],
     out: &mut [u32],
-    at: usize,
-) -> choice::Mark
-    requires { ⌜ Placed (now t) (now outline) n1 place (length (now work)) × Windows (now t) (now windows) n1 × (l ≤ 281474976710656) × (n + pairs-registers l (alternatives-of (now t) n1) ≤ 65536) × (at + length (pairs-stores l (alternatives-of (now t) n1) n) ≤ length (now out)) ⌝ }
-    ensures { λ m. ⌜ Marked (now (out .entry)) (now (out .exit)) at m (pairs-stores l (alternatives-of (now (t .entry)) n1) n) (n + pairs-registers l (alternatives-of (now (t .entry)) n1)) ⌝ }
+) -> pair::Mark
+    requires { ⌜ Rowing (now t) (now outline) (now windows) row (now work) × (from .register + pairs-registers (pairs-of (now t) row) ≤ 65536) ⌝ }
+    requires room { ⌜ from .place + length (pairs-stores (pairs-of (now t) row) (from .register)) ≤ length (now out) ⌝ }
+    ensures { λ m. ⌜ Onward (now (out .entry)) (now (out .exit)) from m (pairs-stores (pairs-of (now (t .entry)) row) (from .register)) (pairs-of (now (t .entry)) row) ⌝ }
 {
-    let count = expand::count_of(outline, n1);
-    let mut p = at;
-    let mut r = n;
-    let mut j = 0;
+    let count = outline::count_of(outline, row.one);
+    let mut m = from;
+    let mut j = next_fitting(windows, count, row.window, 0);
     while j < count {
-        let m = nth_pair_stores(t, outline, windows, n1, j, l, r, place, work, out, p);
-        p = m.place;
-        r = m.register;
-        j += 1;
+        let both = beside(t, outline, windows, row, j, m.register, work);
+        m = pair::stores(work, both, out, m.place);
+        j = next_fitting(windows, count, row.window, j + 1);
     }
-    choice::Mark {
-        place: p,
-        register: r,
-    }
+    m
 }
 
-// The assignments of the i-th alternative of seq2 and of its pairs.
-fn row_stores(
-    t: &[u32],
-    outline: &[u32],
-    windows: &[u64],
-    n1: u32,
-    n2: u32,
-    i: u32,
-    n: u32,
-    work: &mut [u32],
-    out: &mut [u32],
-    at: usize,
-) -> choice::Mark
-    requires { ⌜ Paired (now t) (now outline) n1 n2 (length (now work)) × Windows (now t) (now windows) n1 × (i < length (alternatives-of (now t) n2)) × (n + row-registers (alternatives-of (now t) n1) (nth (alternatives-of (now t) n2) i .steps) ≤ 65536) × (at + length (row-stores (alternatives-of (now t) n1) (nth (alternatives-of (now t) n2) i .steps) n) ≤ length (now out)) ⌝ }
-    ensures { λ m. ⌜ Marked (now (out .entry)) (now (out .exit)) at m (row-stores (alternatives-of (now (t .entry)) n1) (nth (alternatives-of (now (t .entry)) n2) i .steps) n) (n + row-registers (alternatives-of (now (t .entry)) n1) (nth (alternatives-of (now (t .entry)) n2) i .steps)) ⌝ }
-{
-    let end = expand::alternative(t, outline, n2, i, meaning::SeqHop::Fixed(0), work, 0);
-    let two = &work[..end];
-    let l = pair::window_len(two);
-    let r = n + pair::registers_of(two) as u32;
-    let a = pair::stores_of(two, n, out, at);
-    pairs_stores(t, outline, windows, n1, l, r, end, work, out, a)
-}
-
-// All assignments of a within, registers numbered from `first` on.
+// Puts all assignments of a within.
 fn put_stores(
     t: &[u32],
     outline: &[u32],
     windows: &[u64],
-    n1: u32,
-    n2: u32,
-    first: u32,
+    one: u32,
+    two: u32,
+    from: pair::Mark,
     work: &mut [u32],
     out: &mut [u32],
-    at: usize,
 ) -> usize
-    requires { ⌜ Paired (now t) (now outline) n1 n2 (length (now work)) × Windows (now t) (now windows) n1 × (first + all-registers (alternatives-of (now t) n1) (alternatives-of (now t) n2) ≤ 65536) × (at + length (all-stores (alternatives-of (now t) n1) (alternatives-of (now t) n2) first) ≤ length (now out)) ⌝ }
-    ensures { λ p. ⌜ Wrote (now (out .entry)) (now (out .exit)) at p (all-stores (alternatives-of (now (t .entry)) n1) (alternatives-of (now (t .entry)) n2) first) ⌝ }
+    requires { ⌜ Numberable (now t) (now outline) one two (from .register) (length (now work)) × Windows (now t) (now windows) one ⌝ }
+    requires room { ⌜ from .place + length (all-stores (alternatives-of (now t) one) (alternatives-of (now t) two) (from .register)) ≤ length (now out) ⌝ }
+    ensures { λ p. ⌜ Wrote (now (out .entry)) (now (out .exit)) (from .place) p (all-stores (alternatives-of (now (t .entry)) one) (alternatives-of (now (t .entry)) two) (from .register)) ⌝ }
 {
-    let count = expand::count_of(outline, n2);
-    let mut p = at;
-    let mut r = first;
+    let count = outline::count_of(outline, two);
+    let mut m = from;
     let mut i = 0;
     while i < count {
-        let m = row_stores(t, outline, windows, n1, n2, i, r, work, out, p);
-        p = m.place;
-        r = m.register;
+        let row = row_of(t, outline, one, two, i, m.register, work);
+        let p = pipeline::stores(work, row.two, out, m.place);
+        let r = alternative::next_register(work, row.two);
+        m = pairs_stores(
+            t,
+            outline,
+            windows,
+            row,
+            pair::Mark {
+                place: p,
+                register: r,
+            },
+            work,
+            out,
+        );
         i += 1;
     }
-    p
+    m.place
 }
 
-// The text of the j-th alternative of seq1 beside the one of seq2 whose steps end at `place` and whose registers begin with m.
-// The match begins at `from`.
-fn nth_pair_text(
-    t: &[u32],
-    outline: &[u32],
-    windows: &[u64],
-    n1: u32,
-    j: u32,
-    l: u64,
-    m: u32,
-    n: u32,
-    place: usize,
-    from: usize,
-    work: &mut [u32],
-    out: &mut [u32],
-    at: usize,
-) -> choice::Mark
-    requires { ⌜ Placed (now t) (now outline) n1 place (length (now work)) × Windows (now t) (now windows) n1 × (j < length (alternatives-of (now t) n1)) × (l ≤ 281474976710656) × (from ≤ at) × Kept (take place (now work)) × (m + registers-in (steps-in (take place (now work))) ≤ 65536) × (n + taken-registers l (nth (alternatives-of (now t) n1) j .steps) ≤ 65536) × (at + length (taken-text (at - from) l (text-in (steps-in (take place (now work))) m) (nth (alternatives-of (now t) n1) j .steps) n) ≤ length (now out)) ⌝ }
-    ensures { λ k. ⌜ Marked (now (out .entry)) (now (out .exit)) at k (taken-text (at - from) l (text-in (steps-in (take place (now (work .entry)))) m) (nth (alternatives-of (now (t .entry)) n1) j .steps) n) (n + taken-registers l (nth (alternatives-of (now (t .entry)) n1) j .steps)) ⌝ }
-    ensures front { λ _. ⌜ take place (now (work .exit)) ≡ take place (now (work .entry)) ⌝ }
-{
-    if l < windows[j as usize] {
-        return choice::Mark {
-            place: at,
-            register: n,
-        };
-    }
-    let end = expand::alternative(t, outline, n1, j, meaning::SeqHop::Fixed(0), work, place);
-    let r = pair::pair_registers(&work[place..end], l);
-    let p = pair::pair_text_in(work, place, end, m, l, n, at - from, out, at);
-    choice::Mark {
-        place: p,
-        register: n + r as u32,
-    }
-}
-
-// The texts of all of them.
+// Puts the texts of the pairs of a row. The match begins at `start`.
 fn pairs_texts(
     t: &[u32],
     outline: &[u32],
     windows: &[u64],
-    n1: u32,
-    l: u64,
-    m: u32,
-    n: u32,
-    end: usize,
-    from: usize,
+    row: Row,
+    start: usize,
+    from: pair::Mark,
     work: &mut [u32],
     out: &mut [u32],
-    at: usize,
-) -> choice::Mark
-    requires { ⌜ Placed (now t) (now outline) n1 end (length (now work)) × Windows (now t) (now windows) n1 × (l ≤ 281474976710656) × (from ≤ at) × Kept (take end (now work)) × (m + registers-in (steps-in (take end (now work))) ≤ 65536) × (n + pairs-registers l (alternatives-of (now t) n1) ≤ 65536) × (at + length (pairs-texts (at - from) l (text-in (steps-in (take end (now work))) m) (alternatives-of (now t) n1) n) ≤ length (now out)) ⌝ }
-    ensures { λ k. ⌜ Marked (now (out .entry)) (now (out .exit)) at k (pairs-texts (at - from) l (text-in (steps-in (take end (now (work .entry)))) m) (alternatives-of (now (t .entry)) n1) n) (n + pairs-registers l (alternatives-of (now (t .entry)) n1)) ⌝ }
+) -> pair::Mark
+    requires { ⌜ Rowing (now t) (now outline) (now windows) row (now work) × (from .register + pairs-registers (pairs-of (now t) row) ≤ 65536) ⌝ }
+    requires behind { ⌜ Ended (now work) (row .two) (from .register) ⌝ }
+    requires room { ⌜ (start ≤ from .place) × (from .place + length (texts-of (now t) (now work) row start from) ≤ length (now out)) ⌝ }
+    ensures { λ m. ⌜ Onward (now (out .entry)) (now (out .exit)) from m (texts-of (now (t .entry)) (now (work .entry)) row start from) (pairs-of (now (t .entry)) row) ⌝ }
 {
-    let count = expand::count_of(outline, n1);
-    let mut p = at;
-    let mut r = n;
-    let mut j = 0;
+    let count = outline::count_of(outline, row.one);
+    let mut m = from;
+    let mut j = next_fitting(windows, count, row.window, 0);
     while j < count {
-        let k = nth_pair_text(t, outline, windows, n1, j, l, m, r, end, from, work, out, p);
-        p = k.place;
-        r = k.register;
-        j += 1;
+        let both = beside(t, outline, windows, row, j, m.register, work);
+        m = pair::text(work, both, from.register, m.place - start, out, m.place);
+        j = next_fitting(windows, count, row.window, j + 1);
     }
-    choice::Mark {
-        place: p,
-        register: r,
-    }
+    m
 }
 
-// The texts of the pairs of the i-th alternative of seq2.
-fn row_texts(
-    t: &[u32],
-    outline: &[u32],
-    windows: &[u64],
-    n1: u32,
-    n2: u32,
-    i: u32,
-    n: u32,
-    from: usize,
-    work: &mut [u32],
-    out: &mut [u32],
-    at: usize,
-) -> choice::Mark
-    requires { ⌜ Paired (now t) (now outline) n1 n2 (length (now work)) × Windows (now t) (now windows) n1 × (i < length (alternatives-of (now t) n2)) × (from ≤ at) × (n + row-registers (alternatives-of (now t) n1) (nth (alternatives-of (now t) n2) i .steps) ≤ 65536) × (at + length (row-texts (at - from) (alternatives-of (now t) n1) (nth (alternatives-of (now t) n2) i .steps) n) ≤ length (now out)) ⌝ }
-    ensures { λ k. ⌜ Marked (now (out .entry)) (now (out .exit)) at k (row-texts (at - from) (alternatives-of (now (t .entry)) n1) (nth (alternatives-of (now (t .entry)) n2) i .steps) n) (n + row-registers (alternatives-of (now (t .entry)) n1) (nth (alternatives-of (now (t .entry)) n2) i .steps)) ⌝ }
-{
-    let end = expand::alternative(t, outline, n2, i, meaning::SeqHop::Fixed(0), work, 0);
-    let two = &work[..end];
-    let l = pair::window_len(two);
-    let r = n + pair::registers_of(two) as u32;
-    pairs_texts(t, outline, windows, n1, l, n, r, end, from, work, out, at)
-}
-
-// The texts of all pairs.
+// Puts the texts of all pairs.
 fn all_texts(
     t: &[u32],
     outline: &[u32],
     windows: &[u64],
-    n1: u32,
-    n2: u32,
-    first: u32,
+    one: u32,
+    two: u32,
+    from: pair::Mark,
     work: &mut [u32],
     out: &mut [u32],
-    at: usize,
 ) -> usize
-    requires { ⌜ Paired (now t) (now outline) n1 n2 (length (now work)) × Windows (now t) (now windows) n1 × (first + all-registers (alternatives-of (now t) n1) (alternatives-of (now t) n2) ≤ 65536) × (at + length (all-texts 0 (alternatives-of (now t) n1) (alternatives-of (now t) n2) first) ≤ length (now out)) ⌝ }
-    ensures { λ p. ⌜ Wrote (now (out .entry)) (now (out .exit)) at p (all-texts 0 (alternatives-of (now (t .entry)) n1) (alternatives-of (now (t .entry)) n2) first) ⌝ }
+    requires { ⌜ Numberable (now t) (now outline) one two (from .register) (length (now work)) × Windows (now t) (now windows) one ⌝ }
+    requires room { ⌜ from .place + length (all-texts 0 (alternatives-of (now t) one) (alternatives-of (now t) two) (from .register)) ≤ length (now out) ⌝ }
+    ensures { λ p. ⌜ Wrote (now (out .entry)) (now (out .exit)) (from .place) p (all-texts 0 (alternatives-of (now (t .entry)) one) (alternatives-of (now (t .entry)) two) (from .register)) ⌝ }
 {
-    let count = expand::count_of(outline, n2);
-    let mut p = at;
-    let mut r = first;
+    let count = outline::count_of(outline, two);
+    let start = from.place;
+    let mut m = from;
     let mut i = 0;
     while i < count {
-        let k = row_texts(t, outline, windows, n1, n2, i, r, at, work, out, p);
-        p = k.place;
-        r = k.register;
+        let row = row_of(t, outline, one, two, i, m.register, work);
+        let r = alternative::next_register(work, row.two);
+        m = pairs_texts(
+            t,
+            outline,
+            windows,
+            row,
+            start,
+            pair::Mark {
+                place: m.place,
+                register: r,
+            },
+            work,
+            out,
+        );
         i += 1;
     }
-    p
+    m.place
 }
 
-// The match of a within: its pairs ORed, or 0 where none fits.
+// Puts the match of a within: its pairs ORed, or 0 where none fits.
 fn put_match(
     t: &[u32],
     outline: &[u32],
     windows: &[u64],
-    n1: u32,
-    n2: u32,
-    first: u32,
+    one: u32,
+    two: u32,
+    from: pair::Mark,
     work: &mut [u32],
     out: &mut [u32],
-    at: usize,
 ) -> usize
-    requires { ⌜ Paired (now t) (now outline) n1 n2 (length (now work)) × Windows (now t) (now windows) n1 × (first + all-registers (alternatives-of (now t) n1) (alternatives-of (now t) n2) ≤ 65536) × (at + length (or-zero (all-texts 0 (alternatives-of (now t) n1) (alternatives-of (now t) n2) first)) ≤ length (now out)) ⌝ }
-    ensures { λ p. ⌜ Wrote (now (out .entry)) (now (out .exit)) at p (or-zero (all-texts 0 (alternatives-of (now (t .entry)) n1) (alternatives-of (now (t .entry)) n2) first)) ⌝ }
+    requires { ⌜ Numberable (now t) (now outline) one two (from .register) (length (now work)) × Windows (now t) (now windows) one ⌝ }
+    requires room { ⌜ from .place + length (within-match (alternatives-of (now t) one) (alternatives-of (now t) two) (from .register)) ≤ length (now out) ⌝ }
+    ensures { λ p. ⌜ Wrote (now (out .entry)) (now (out .exit)) (from .place) p (within-match (alternatives-of (now (t .entry)) one) (alternatives-of (now (t .entry)) two) (from .register)) ⌝ }
 {
-    let p = all_texts(t, outline, windows, n1, n2, first, work, out, at);
+    let at = from.place;
+    let p = all_texts(t, outline, windows, one, two, from, work, out);
     if p == at {
-        return words::put(out, at, step_text::ZERO);
+        return words::put(out, at, word::ZERO);
     }
     p
 }
@@ -407,100 +309,56 @@ fn plus(a: sizes::Size, b: sizes::Size) -> sizes::Size
     }
 }
 
-// The same of the j-th alternative of seq1.
-fn nth_pair_size(
-    t: &[u32],
-    outline: &[u32],
-    windows: &[u64],
-    n1: u32,
-    j: u32,
-    l: u64,
-    two: u64,
-    place: usize,
-    work: &mut [u32],
-) -> sizes::Size
-    requires { ⌜ Placed (now t) (now outline) n1 place (length (now work)) × Windows (now t) (now windows) n1 × (j < length (alternatives-of (now t) n1)) × (taken-registers l (nth (alternatives-of (now t) n1) j .steps) ≤ 65536) × (two ≤ 1048576) ⌝ }
-    ensures { λ r. ⌜ r ≡ taken-size l two (nth (alternatives-of (now (t .entry)) n1) j .steps) ⌝ }
-    ensures small { λ r. ⌜ (r .text ≤ 4194304) × (r .stores ≤ 18014398509481984) ⌝ }
-{
-    if l < windows[j as usize] {
-        return sizes::Size { text: 0, stores: 0 };
-    }
-    let end = expand::alternative(t, outline, n1, j, meaning::SeqHop::Fixed(0), work, place);
-    pair::pair_size(&work[place..end], l, two)
-}
-
-// Of all of them.
+// The words of the pairs of a row, beside a text of seq2 of so many words.
 fn pairs_size(
     t: &[u32],
     outline: &[u32],
     windows: &[u64],
-    n1: u32,
-    l: u64,
-    two: u64,
-    place: usize,
+    row: Row,
+    text: u64,
     work: &mut [u32],
 ) -> sizes::Size
-    requires { ⌜ Placed (now t) (now outline) n1 place (length (now work)) × Windows (now t) (now windows) n1 × (pairs-registers l (alternatives-of (now t) n1) ≤ 65536) × (two ≤ 1048576) ⌝ }
-    ensures { λ r. ⌜ r ≡ pairs-size l two (alternatives-of (now (t .entry)) n1) ⌝ }
-    ensures small { λ r. ⌜ (r .text ≤ length (alternatives-of (now (t .entry)) n1) * 4194304) × (r .stores ≤ length (alternatives-of (now (t .entry)) n1) * 18014398509481984) ⌝ }
+    requires { ⌜ Rowing (now t) (now outline) (now windows) row (now work) × (pairs-registers (pairs-of (now t) row) ≤ 65536) × (text ≤ longest-text) ⌝ }
+    ensures { λ z. ⌜ z ≡ pairs-size text (pairs-of (now (t .entry)) row) ⌝ }
+    ensures small { λ z. ⌜ AtMost (length (alternatives-of (now (t .entry)) (row .one))) z ⌝ }
 {
-    let count = expand::count_of(outline, n1);
+    let count = outline::count_of(outline, row.one);
     let mut total = sizes::Size { text: 0, stores: 0 };
-    let mut j = 0;
+    let mut j = next_fitting(windows, count, row.window, 0);
     while j < count {
-        let s = nth_pair_size(t, outline, windows, n1, j, l, two, place, work);
-        total = plus(total, s);
-        j += 1;
+        let both = beside(t, outline, windows, row, j, 0, work);
+        let own = alternative::size(work, both.one);
+        total = plus(total, pair::size(own, text, both.delays));
+        j = next_fitting(windows, count, row.window, j + 1);
     }
     total
 }
 
-// Of the i-th alternative of seq2 and its pairs.
-fn row_size(
-    t: &[u32],
-    outline: &[u32],
-    windows: &[u64],
-    n1: u32,
-    n2: u32,
-    i: u32,
-    work: &mut [u32],
-) -> sizes::Size
-    requires { ⌜ Paired (now t) (now outline) n1 n2 (length (now work)) × Windows (now t) (now windows) n1 × (i < length (alternatives-of (now t) n2)) × (row-registers (alternatives-of (now t) n1) (nth (alternatives-of (now t) n2) i .steps) ≤ 65536) ⌝ }
-    ensures { λ r. ⌜ r ≡ row-size (alternatives-of (now (t .entry)) n1) (nth (alternatives-of (now (t .entry)) n2) i .steps) ⌝ }
-    ensures small { λ r. ⌜ (r .text ≤ (length (alternatives-of (now (t .entry)) n1) + 1) * 4194304) × (r .stores ≤ (length (alternatives-of (now (t .entry)) n1) + 1) * 18014398509481984) ⌝ }
-{
-    let end = expand::alternative(t, outline, n2, i, meaning::SeqHop::Fixed(0), work, 0);
-    let two = &work[..end];
-    let l = pair::window_len(two);
-    let own = pair::size_of(two);
-    let pairs = pairs_size(t, outline, windows, n1, l, own.text, end, work);
-    let first = sizes::Size {
-        text: 0,
-        stores: own.stores,
-    };
-    plus(first, pairs)
-}
-
-// Of all alternatives of seq2.
+// The words of all rows and of their pairs.
 fn all_size(
     t: &[u32],
     outline: &[u32],
     windows: &[u64],
-    n1: u32,
-    n2: u32,
+    one: u32,
+    two: u32,
     work: &mut [u32],
 ) -> sizes::Size
-    requires { ⌜ Paired (now t) (now outline) n1 n2 (length (now work)) × Windows (now t) (now windows) n1 × (all-registers (alternatives-of (now t) n1) (alternatives-of (now t) n2) ≤ 65536) ⌝ }
-    ensures { λ r. ⌜ r ≡ all-size (alternatives-of (now (t .entry)) n1) (alternatives-of (now (t .entry)) n2) ⌝ }
-    ensures small { λ r. ⌜ (r .text ≤ 2147483648) × (r .stores ≤ 9223372036854775808) ⌝ }
+    requires { ⌜ Numberable (now t) (now outline) one two 0 (length (now work)) × Windows (now t) (now windows) one ⌝ }
+    ensures { λ z. ⌜ z ≡ all-size (alternatives-of (now (t .entry)) one) (alternatives-of (now (t .entry)) two) ⌝ }
+    ensures small { λ z. ⌜ AtMost 512 z ⌝ }
 {
-    let count = expand::count_of(outline, n2);
+    let count = outline::count_of(outline, two);
     let mut total = sizes::Size { text: 0, stores: 0 };
     let mut i = 0;
     while i < count {
-        let s = row_size(t, outline, windows, n1, n2, i, work);
-        total = plus(total, s);
+        let row = row_of(t, outline, one, two, i, 0, work);
+        let own = alternative::size(work, row.two);
+        let pairs = pairs_size(t, outline, windows, row, own.text, work);
+        let stores = sizes::Size {
+            text: 0,
+            stores: own.stores,
+        };
+        total = plus(total, plus(stores, pairs));
         i += 1;
     }
     total
@@ -508,9 +366,9 @@ fn all_size(
 
 // The words of the match, from those of its pairs with all their ORs.
 fn match_size(texts: u64) -> u64
-    requires { ⌜ texts ≤ 2147483648 ⌝ }
+    requires { ⌜ texts ≤ longest-match ⌝ }
     ensures { λ r. ⌜ r ≡ match-size texts ⌝ }
-    ensures small { λ r. ⌜ r ≤ 2147483648 ⌝ }
+    ensures small { λ r. ⌜ r ≤ longest-match ⌝ }
 {
     if texts == 0 {
         return 1;
@@ -519,13 +377,13 @@ fn match_size(texts: u64) -> u64
 }
 
 // All words of a within's listing, the match's own included.
-pub fn word_count(t: &[u32], outline: &[u32], n1: u32, n2: u32, work: &mut [u32]) -> u64
-    requires { ⌜ Paired (now t) (now outline) n1 n2 (length (now work)) × (all-registers (alternatives-of (now t) n1) (alternatives-of (now t) n2) ≤ 65536) ⌝ }
-    ensures { λ r. ⌜ r ≡ words-in (alternatives-of (now (t .entry)) n1) (alternatives-of (now (t .entry)) n2) ⌝ }
+pub fn word_count(t: &[u32], outline: &[u32], one: u32, two: u32, work: &mut [u32]) -> u64
+    requires { ⌜ Numberable (now t) (now outline) one two 0 (length (now work)) ⌝ }
+    ensures { λ r. ⌜ r ≡ length (within-words (alternatives-of (now (t .entry)) one) (alternatives-of (now (t .entry)) two) 0) ⌝ }
 {
     let mut windows = [0u64; 256];
-    put_windows(t, outline, n1, work, &mut windows);
-    let s = all_size(t, outline, &windows, n1, n2, work);
+    put_windows(t, outline, one, work, &mut windows);
+    let s = all_size(t, outline, &windows, one, two, work);
     let text = match_size(s.text);
     s.stores + (text + 1)
 }
@@ -534,18 +392,42 @@ pub fn word_count(t: &[u32], outline: &[u32], n1: u32, n2: u32, work: &mut [u32]
 pub fn write(
     t: &[u32],
     outline: &[u32],
-    n1: u32,
-    n2: u32,
+    one: u32,
+    two: u32,
     first: u32,
     work: &mut [u32],
     out: &mut [u32],
 ) -> usize
-    requires { ⌜ Paired (now t) (now outline) n1 n2 (length (now work)) × (first + all-registers (alternatives-of (now t) n1) (alternatives-of (now t) n2) ≤ 65536) × (length (within-words (alternatives-of (now t) n1) (alternatives-of (now t) n2) first) ≤ length (now out)) ⌝ }
-    ensures { λ end. ⌜ Wrote (now (out .entry)) (now (out .exit)) 0 end (within-words (alternatives-of (now (t .entry)) n1) (alternatives-of (now (t .entry)) n2) first) ⌝ }
+    requires { ⌜ Numberable (now t) (now outline) one two first (length (now work)) × (length (within-words (alternatives-of (now t) one) (alternatives-of (now t) two) first) ≤ length (now out)) ⌝ }
+    ensures { λ end. ⌜ Wrote (now (out .entry)) (now (out .exit)) 0 end (within-words (alternatives-of (now (t .entry)) one) (alternatives-of (now (t .entry)) two) first) ⌝ }
 {
     let mut windows = [0u64; 256];
-    put_windows(t, outline, n1, work, &mut windows);
-    let a = put_stores(t, outline, &windows, n1, n2, first, work, out, 0);
-    let b = put_match(t, outline, &windows, n1, n2, first, work, out, a);
-    words::put(out, b, MATCH)
+    put_windows(t, outline, one, work, &mut windows);
+    let a = put_stores(
+        t,
+        outline,
+        &windows,
+        one,
+        two,
+        pair::Mark {
+            place: 0,
+            register: first,
+        },
+        work,
+        out,
+    );
+    let b = put_match(
+        t,
+        outline,
+        &windows,
+        one,
+        two,
+        pair::Mark {
+            place: a,
+            register: first,
+        },
+        work,
+        out,
+    );
+    words::put(out, b, word::MATCH)
 }

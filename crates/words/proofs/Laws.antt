@@ -42,21 +42,21 @@ go {o} {at} {ws} {o′} {p} {o″} {q} xs vs g w = record {
   long = rw (w .holds) (length-sets o′ p xs) ∙ g .long;
 }
 
--- Nothing remains.
+-- What was to be written is written where nothing remains.
 pub done : {o : List ℕ} {at : ℕ} {ws o′ : List ℕ} {p : ℕ} → Going o at ws o′ p [] → Wrote o o′ at p ws
 unfolding written
 done g = record { holds = g .rest; ends = omega (arith, g .place) }
 
--- Nothing was to be written.
+-- Writing no words changes nothing.
 pub nothing-written : (o : List ℕ) (at : ℕ) → Wrote o o at at []
 nothing-written o at = done (begin o at [])
 
--- The last part.
+-- What was to be written is written with the last part.
 pub last : {o : List ℕ} {at : ℕ} {ws o′ : List ℕ} {p : ℕ} {o″ : List ℕ} {q : ℕ} {xs : List ℕ}
     → Going o at ws o′ p xs → Wrote o′ o″ p q xs → Wrote o o″ at q ws
 last {xs = xs} g w = done (go xs [] (rw append-nil g) w)
 
--- The same words, said otherwise.
+-- What was written may be named by any equal list of words.
 pub same-words : {o o′ : List ℕ} {at r : ℕ} {ws vs : List ℕ} → ws ≡ vs → Wrote o o′ at r ws → Wrote o o′ at r vs
 same-words e w = rw (← e) w
 
@@ -90,7 +90,7 @@ second-room xs ys e h u = omega (arith, h, ap length e, length-append xs ys, u .
 pub both-done : {at a p : ℕ} {o o₁ o₂ ws xs ys : List ℕ} → ws ≡ xs ++ ys → Wrote o o₁ at a xs → Wrote o₁ o₂ a p ys → Wrote o o₂ at p ws
 both-done e u v = same-words (sym e) (two-parts u v)
 
--- .. in three parts.
+-- Words in three parts, written one after the other: the room of the third.
 pub third-room : {at a b : ℕ} {o o₁ o₂ ws : List ℕ} (xs ys zs : List ℕ) → ws ≡ xs ++ (ys ++ zs) → at + length ws ≤ length o → Wrote o o₁ at a xs → Wrote o₁ o₂ a b ys → b + length zs ≤ length o₂
 third-room xs ys zs e h u v = second-room ys zs refl (second-room xs (ys ++ zs) e h u) v
 
@@ -116,14 +116,14 @@ unfolding written
 written-below [] o at i h = refl
 written-below (w ∷ ws) o at i h = written-below ws (set o at w) (suc at) i (omega arith) ∙ getD-set-other o at i w 0 (λ e. omega arith)
 
--- What was written is a part of the list ..
+-- What was written is the part of the list that begins at its place.
 pub written-part : (o : List ℕ) (at : ℕ) (ws : List ℕ) → at + length ws ≤ length o → take (length ws) (drop at (written o at ws)) ≡ ws
 written-part o at ws h =
     ap (λ (l : List ℕ). take (length ws) (drop at l)) (spliced o at ws h ∙ append-assoc (take at o) ws (drop (at + length ws) o))
     ∙ ap (take (length ws)) (drop-at (take at o) (ws ++ drop (at + length ws) o) at (length-take-le at o (omega arith)))
     ∙ take-at ws (drop (at + length ws) o) (length ws) refl
 
--- .. the first, where it was written from the front on.
+-- What was written from the front on is the first part of the list.
 pub front-written : {o o′ : List ℕ} {n : ℕ} {ws : List ℕ} → Wrote o o′ 0 n ws → length ws ≤ length o → take n o′ ≡ ws
 front-written {o} {o′} {n} {ws} w h =
     let n-is : n ≡ length ws = omega (arith, w .ends) in

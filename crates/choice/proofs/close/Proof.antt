@@ -1,5 +1,5 @@
 -- `close` puts nothing, `any`, or `any or`, by how many texts there are and which it is.
-use Rattle.choice.proofs.Laws.{alone-closed, room-for-any, leading-closed, room-for-or, following-closed}
+use Rattle.choice.proofs.Closings.{alone-closed, room-for-any, leading-closed, room-for-or, following-closed}
 use borrow.Author.Needs.{needs}
 use Rattle.choice.proofs.close.Statement.{statement}
 use Rattle.choice.proofs.close.Tie as tie
@@ -17,10 +17,7 @@ returns-2 : tie.Need-returns-2
 returns-2 c = search leading-closed
 
 put-requires-2 : tie.Need-put-requires-2
-put-requires-2 c κs = search room-for-any
-
-put-requires-3 : tie.Need-put-requires-3
-put-requires-3 c κs = search room-for-or
+put-requires-2 c κs = search room-for-or
 
 same-length-2 : tie.Need-same-length-2
 same-length-2 c = search needs
@@ -37,6 +34,5 @@ close-spec =
     same-length
     returns-2
     put-requires-2
-    put-requires-3
     same-length-2
     returns-3)

@@ -1,6 +1,6 @@
 -- `closing_length` counts what `close` puts, by the same two tests.
 use borrow.Author.Needs.{needs}
-use Rattle.choice.proofs.Laws.{alone-length, leading-length, following-length}
+use Rattle.choice.proofs.Closings.{alone-length, leading-length, following-length}
 use Rattle.choice.proofs.closing_length.Statement.{statement}
 use Rattle.choice.proofs.closing_length.Tie as tie
 

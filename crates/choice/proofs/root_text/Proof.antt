@@ -1,11 +1,11 @@
 -- `root_text` puts the bare atom, or the text after the last step.
-use Rattle.choice.proofs.RootTexts.{bare-fits, bare-room, bare-written, other-room, other-written}
 use borrow.Author.Needs.{needs}
+use Rattle.choice.proofs.RootTexts.{other-room, other-written, bare-fits, bare-room, bare-written}
 use Rattle.choice.proofs.root_text.Statement.{statement}
 use Rattle.choice.proofs.root_text.Tie as tie
 
-lone-at-requires : tie.Need-lone-at-requires
-lone-at-requires c κs = search needs
+lone-in-requires : tie.Need-lone-in-requires
+lone-in-requires c κs = search needs
 
 enum-known-lone : tie.Need-enum-known-lone
 enum-known-lone c = search needs
@@ -13,8 +13,8 @@ enum-known-lone c = search needs
 enum-told : tie.Need-enum-told
 enum-told c = search needs
 
-current-requires : tie.Need-current-requires
-current-requires c κs = (search needs, search other-room)
+text-requires : tie.Need-text-requires
+text-requires c κs = (search needs, search other-room)
 
 same-length : tie.Need-same-length
 same-length c = search needs
@@ -38,10 +38,10 @@ pub root-text-spec : {M : Type 1} → statement M
 root-text-spec =
     tie.close
     (tie.spec
-    lone-at-requires
+    lone-in-requires
     enum-known-lone
     enum-told
-    current-requires
+    text-requires
     same-length
     returns
     add-put

@@ -1,21 +1,29 @@
 -- `word_count` adds the words alternative by alternative; what is left of them is said in `Sizing`.
 use borrow.Author.Needs.{needs}
 use Prim.Native.Nat.{_-_}
-use Rattle.choice.proofs.Laws.{chosen-below, registers-fit, Sizing, sizing-begins, sizing-on, sizing-ends, pass-ends-with}
+use lib.ListN.{length}
+use Rattle.alternative.proofs.Keeping.{outline-is-there, keepable-again}
+use Rattle.choice.proofs.Passes.{among, now-countable, Sizing, sizing-begins, sizing-on, sizing-ends}
 use Rattle.choice.proofs.word_count.Statement.{statement}
 use Rattle.choice.proofs.word_count.Tie as tie
 
 abbrev Inv-loop : tie.InvT-loop
-Inv-loop t outline n count first work₀ total₀ x₀ i₀ work total x i = Sizing t n count first work₀ work total x i
+Inv-loop t outline n work₀ count total₀ i₀ work total i = Sizing t n (length work₀) work total i
 
 abbrev μ-loop : tie.MeasureT-loop
-μ-loop t outline n count first work₀ total₀ x₀ i₀ work total x i = count - i
+μ-loop t outline n work₀ count total₀ i₀ work total i = count - i
+
+count-of-requires : tie.Need-count-of-requires Inv-loop μ-loop
+count-of-requires c κs = search outline-is-there
 
 loop-holds : tie.Need-loop-holds Inv-loop μ-loop
 loop-holds c = search sizing-begins
 
-size-of-requires : tie.Need-size-of-requires Inv-loop μ-loop
-size-of-requires c κs = (search chosen-below, search registers-fit)
+keep-requires : tie.Need-keep-requires Inv-loop μ-loop
+keep-requires c κs = (search keepable-again, search among)
+
+root-size-requires : tie.Need-root-size-requires Inv-loop μ-loop
+root-size-requires c κs = search now-countable
 
 closing-length-requires : tie.Need-closing-length-requires Inv-loop μ-loop
 closing-length-requires c κs = search needs
@@ -39,7 +47,7 @@ same-length : tie.Need-same-length Inv-loop μ-loop
 same-length c = search needs
 
 returns : tie.Need-returns Inv-loop μ-loop
-returns c = (search sizing-ends, search pass-ends-with)
+returns c = search sizing-ends
 
 pub word-count-spec : {M : Type 1} → statement M
 word-count-spec =
@@ -47,8 +55,10 @@ word-count-spec =
     (tie.spec
     Inv-loop
     μ-loop
+    count-of-requires
     loop-holds
-    size-of-requires
+    keep-requires
+    root-size-requires
     closing-length-requires
     add-total
     add-total-2

@@ -1,143 +1,118 @@
--- The recursion on the node number: each return is the walk's answer from the answers below the node.
+-- The recursion on the node number: the operands that are visited one after the other, a refusal of one handed up, then the node's own answer and word.
 use borrow.Author.Needs.{needs}
-use Rattle.count.proofs.Walking.{answer-is-small, too-deep, node-inside, node-few, operand-lower, operand-countable, left-refused, right-refused, delay-ranged, delay-done, one-refused, covered-done, repeated-ranged, repeated-done, not-visited, unvisited-done}
-use Prim.Native.Nat.{ℕ, _<_}
+use Rattle.outline.proofs.Laws.{where-refused, refusal-promises-nothing}
+use Rattle.count.specs.Nodes.{visits}
+use Rattle.meaning.specs.Tree.{node-at}
+use Rattle.count.proofs.Walking.{answer-is-small, too-deep, node-inside, node-few}
+use Rattle.count.proofs.Joining.{Joining, joining-begins, operand-lower, operand-countable, operand-refused, joining-on, answerable, joined-small, answer-done, answer-noted}
+use Prim.Native.Nat.{ℕ, _-_, _<_}
 use borrow.Fn.Kinds.{In}
 use borrow.Fn.PlainCycle.{Measures, is, falls, and}
 use Rattle.count.proofs.walked.Reads as walked
 use Rattle.count.proofs.walked.Kinds as walked-kinds
 use Rattle.count.proofs.+walked.Lts-walked as walked-lts
-use Rattle.count.proofs.covered.Reads as covered-reads
-use Rattle.count.proofs.delayed.Reads as delayed-reads
-use Rattle.count.proofs.only_operand.Reads as only-operand-reads
-use Rattle.count.proofs.repeated.Reads as repeated-reads
-use Rattle.count.proofs.unvisited.Reads as unvisited-reads
-use Rattle.count.proofs.visits_one.Reads as visits-one-reads
-use Rattle.tree.proofs.read.Reads as read-reads
+use Rattle.count.proofs.answered.Reads as answered-reads
+use Rattle.count.proofs.operand.Reads as operand-reads
+use Rattle.count.proofs.product.Reads as product-reads
+use Rattle.count.proofs.visits.Reads as visits-reads
 use Rattle.count.proofs.+walked.{statement}
 use Rattle.count.proofs.+walked.Tie.{close}
 
-abbrev μ-walked : Measures 1 walked-kinds.ps ℕ
+abbrev μ-walked : Measures 2 walked-kinds.ps ℕ
 μ-walked κs a = a .1 .0
 
-abbrev walked-at : ℕ → In 1 walked-kinds.ps
-walked-at t = and 1 walked-kinds.ps (is 1 walked-kinds.ps μ-walked t) walked.Pre
+abbrev walked-at : ℕ → In 2 walked-kinds.ps
+walked-at t = and 2 walked-kinds.ps (is 2 walked-kinds.ps μ-walked t) walked.Pre
 
-abbrev walked-below : ℕ → In 1 walked-kinds.ps
-walked-below t = and 1 walked-kinds.ps (falls 1 walked-kinds.ps _<_ μ-walked t) walked.Pre
+abbrev walked-below : ℕ → In 2 walked-kinds.ps
+walked-below t = and 2 walked-kinds.ps (falls 2 walked-kinds.ps _<_ μ-walked t) walked.Pre
+
+abbrev walked-Inv-loop : walked-lts.InvT-loop
+walked-Inv-loop t n room depth outline₀ c₀ k₀ outline c k = Joining t n room depth outline₀ k c outline
+
+abbrev walked-μ-loop : walked-lts.MeasureT-loop
+walked-μ-loop t n room depth outline₀ c₀ k₀ outline c k = visits (node-at t n) - k
 
 abbrev callees : ℕ → walked-lts.Claims
-callees t = (read-reads.Asked, read-reads.Learnt, walked-below t, walked.Post, delayed-reads.Asked, delayed-reads.Learnt, visits-one-reads.Asked, visits-one-reads.Learnt, only-operand-reads.Asked, only-operand-reads.Learnt, covered-reads.Asked, covered-reads.Learnt, repeated-reads.Asked, repeated-reads.Learnt, unvisited-reads.Asked, unvisited-reads.Learnt)
+callees t = (visits-reads.Asked, visits-reads.Learnt, operand-reads.Asked, operand-reads.Learnt, walked-below t, walked.Post, product-reads.Asked, product-reads.Learnt, answered-reads.Asked, answered-reads.Learnt)
 
-walked-returns : (t : ℕ) → walked-lts.Need-returns (callees t) (walked-at t) walked.Post
-walked-returns t c = search too-deep
+walked-returns : (t : ℕ) → walked-lts.Need-returns (callees t) (walked-at t) walked.Post walked-Inv-loop walked-μ-loop
+walked-returns t c = (search too-deep, search refusal-promises-nothing)
 
-walked-read-requires : (t : ℕ) → walked-lts.Need-read-requires (callees t) (walked-at t) walked.Post
-walked-read-requires t c κs = (search node-inside, search node-few)
+walked-loop-holds : (t : ℕ) → walked-lts.Need-loop-holds (callees t) (walked-at t) walked.Post walked-Inv-loop walked-μ-loop
+walked-loop-holds t c = search joining-begins
 
-walked-add-walked : (t : ℕ) → walked-lts.Need-add-walked (callees t) (walked-at t) walked.Post
+walked-visits-requires : (t : ℕ) → walked-lts.Need-visits-requires (callees t) (walked-at t) walked.Post walked-Inv-loop walked-μ-loop
+walked-visits-requires t c κs = (search node-inside, search node-few)
+
+walked-operand-requires : (t : ℕ) → walked-lts.Need-operand-requires (callees t) (walked-at t) walked.Post walked-Inv-loop walked-μ-loop
+walked-operand-requires t c κs = (search node-inside, search node-few)
+
+walked-add-walked : (t : ℕ) → walked-lts.Need-add-walked (callees t) (walked-at t) walked.Post walked-Inv-loop walked-μ-loop
 walked-add-walked t c = search needs
 
-walked-walked-requires : (t : ℕ) → walked-lts.Need-walked-requires (callees t) (walked-at t) walked.Post
-walked-walked-requires t c κs = (search operand-lower, search operand-countable)
+walked-walked-requires : (t : ℕ) → walked-lts.Need-walked-requires (callees t) (walked-at t) walked.Post walked-Inv-loop walked-μ-loop
+walked-walked-requires t c κs = (search operand-lower, (search operand-countable, search needs))
 
-walked-enum-known-left : (t : ℕ) → walked-lts.Need-enum-known-left (callees t) (walked-at t) walked.Post
-walked-enum-known-left t c = search needs
-
-walked-enum-told : (t : ℕ) → walked-lts.Need-enum-told (callees t) (walked-at t) walked.Post
-walked-enum-told t c = search needs
-
-walked-returns-2 : (t : ℕ) → walked-lts.Need-returns-2 (callees t) (walked-at t) walked.Post
-walked-returns-2 t c = search left-refused
-
-walked-add-walked-2 : (t : ℕ) → walked-lts.Need-add-walked-2 (callees t) (walked-at t) walked.Post
-walked-add-walked-2 t c = search needs
-
-walked-walked-requires-2 : (t : ℕ) → walked-lts.Need-walked-requires-2 (callees t) (walked-at t) walked.Post
-walked-walked-requires-2 t c κs = (search operand-lower, search operand-countable)
-
-walked-enum-known-right : (t : ℕ) → walked-lts.Need-enum-known-right (callees t) (walked-at t) walked.Post
-walked-enum-known-right t c = search needs
-
-walked-enum-told-2 : (t : ℕ) → walked-lts.Need-enum-told-2 (callees t) (walked-at t) walked.Post
-walked-enum-told-2 t c = search needs
-
-walked-returns-3 : (t : ℕ) → walked-lts.Need-returns-3 (callees t) (walked-at t) walked.Post
-walked-returns-3 t c = search right-refused
-
-walked-delayed-requires : (t : ℕ) → walked-lts.Need-delayed-requires (callees t) (walked-at t) walked.Post
-walked-delayed-requires t c κs = (search delay-ranged, search answer-is-small, search answer-is-small)
-
-walked-returns-4 : (t : ℕ) → walked-lts.Need-returns-4 (callees t) (walked-at t) walked.Post
-walked-returns-4 t c = search delay-done
-
-walked-visits-one-requires : (t : ℕ) → walked-lts.Need-visits-one-requires (callees t) (walked-at t) walked.Post
-walked-visits-one-requires t c κs = search needs
-
-walked-only-operand-requires : (t : ℕ) → walked-lts.Need-only-operand-requires (callees t) (walked-at t) walked.Post
-walked-only-operand-requires t c κs = search needs
-
-walked-add-walked-3 : (t : ℕ) → walked-lts.Need-add-walked-3 (callees t) (walked-at t) walked.Post
-walked-add-walked-3 t c = search needs
-
-walked-walked-requires-3 : (t : ℕ) → walked-lts.Need-walked-requires-3 (callees t) (walked-at t) walked.Post
-walked-walked-requires-3 t c κs = (search operand-lower, search operand-countable)
-
-walked-enum-known-under : (t : ℕ) → walked-lts.Need-enum-known-under (callees t) (walked-at t) walked.Post
+walked-enum-known-under : (t : ℕ) → walked-lts.Need-enum-known-under (callees t) (walked-at t) walked.Post walked-Inv-loop walked-μ-loop
 walked-enum-known-under t c = search needs
 
-walked-enum-told-3 : (t : ℕ) → walked-lts.Need-enum-told-3 (callees t) (walked-at t) walked.Post
-walked-enum-told-3 t c = search needs
+walked-enum-told : (t : ℕ) → walked-lts.Need-enum-told (callees t) (walked-at t) walked.Post walked-Inv-loop walked-μ-loop
+walked-enum-told t c = search needs
 
-walked-returns-5 : (t : ℕ) → walked-lts.Need-returns-5 (callees t) (walked-at t) walked.Post
-walked-returns-5 t c = search one-refused
+walked-same-length : (t : ℕ) → walked-lts.Need-same-length (callees t) (walked-at t) walked.Post walked-Inv-loop walked-μ-loop
+walked-same-length t c = search needs
 
-walked-covered-requires : (t : ℕ) → walked-lts.Need-covered-requires (callees t) (walked-at t) walked.Post
-walked-covered-requires t c κs = search answer-is-small
+walked-returns-2 : (t : ℕ) → walked-lts.Need-returns-2 (callees t) (walked-at t) walked.Post walked-Inv-loop walked-μ-loop
+walked-returns-2 t c = (search operand-refused, search where-refused)
 
-walked-returns-6 : (t : ℕ) → walked-lts.Need-returns-6 (callees t) (walked-at t) walked.Post
-walked-returns-6 t c = search covered-done
+walked-product-requires : (t : ℕ) → walked-lts.Need-product-requires (callees t) (walked-at t) walked.Post walked-Inv-loop walked-μ-loop
+walked-product-requires t c κs = (search needs, search answer-is-small)
 
-walked-repeated-requires : (t : ℕ) → walked-lts.Need-repeated-requires (callees t) (walked-at t) walked.Post
-walked-repeated-requires t c κs = (search repeated-ranged, search answer-is-small)
+walked-add-k : (t : ℕ) → walked-lts.Need-add-k (callees t) (walked-at t) walked.Post walked-Inv-loop walked-μ-loop
+walked-add-k t c = search needs
 
-walked-returns-7 : (t : ℕ) → walked-lts.Need-returns-7 (callees t) (walked-at t) walked.Post
-walked-returns-7 t c = search repeated-done
+walked-loop-less : (t : ℕ) → walked-lts.Need-loop-less (callees t) (walked-at t) walked.Post walked-Inv-loop walked-μ-loop
+walked-loop-less t c = search needs
 
-walked-unvisited-requires : (t : ℕ) → walked-lts.Need-unvisited-requires (callees t) (walked-at t) walked.Post
-walked-unvisited-requires t c κs = search not-visited
+walked-loop-again : (t : ℕ) → walked-lts.Need-loop-again (callees t) (walked-at t) walked.Post walked-Inv-loop walked-μ-loop
+walked-loop-again t c =
+    let told = c .before .before in
+    let under = told .before .before .before .before in
+    let found = under .before .before in
+    let visited = found .before .before in
+    let start = visited .before .before in
+    joining-on (start .before .before .before .pre .1 .0) (start .if1 .left) (visited .visits .ensures) (found .before .if2 .taken) (found .operand .ensures) (visited .before .loop .inv) (under .walked .ensures .0) (search needs) (under .walked .ensures .1) (c .product .ensures) (search needs)
 
-walked-returns-8 : (t : ℕ) → walked-lts.Need-returns-8 (callees t) (walked-at t) walked.Post
-walked-returns-8 t c = search unvisited-done
+walked-answered-requires : (t : ℕ) → walked-lts.Need-answered-requires (callees t) (walked-at t) walked.Post walked-Inv-loop walked-μ-loop
+walked-answered-requires t c κs = (search answerable, search joined-small)
+
+walked-same-length-2 : (t : ℕ) → walked-lts.Need-same-length-2 (callees t) (walked-at t) walked.Post walked-Inv-loop walked-μ-loop
+walked-same-length-2 t c = search needs
+
+walked-returns-3 : (t : ℕ) → walked-lts.Need-returns-3 (callees t) (walked-at t) walked.Post walked-Inv-loop walked-μ-loop
+walked-returns-3 t c = (search answer-done, search (answer-noted, answer-done))
 
 pub +walked-spec : {M : Type 1} → statement M
 +walked-spec = close μ-walked λ t. walked-lts.spec (callees t)
     (walked-at t)
     walked.Post
+    walked-Inv-loop
+    walked-μ-loop
     (walked-returns t)
-    (walked-read-requires t)
+    (walked-loop-holds t)
+    (walked-visits-requires t)
+    (walked-operand-requires t)
     (walked-add-walked t)
     (walked-walked-requires t)
-    (walked-enum-known-left t)
-    (walked-enum-told t)
-    (walked-returns-2 t)
-    (walked-add-walked-2 t)
-    (walked-walked-requires-2 t)
-    (walked-enum-known-right t)
-    (walked-enum-told-2 t)
-    (walked-returns-3 t)
-    (walked-delayed-requires t)
-    (walked-returns-4 t)
-    (walked-visits-one-requires t)
-    (walked-only-operand-requires t)
-    (walked-add-walked-3 t)
-    (walked-walked-requires-3 t)
     (walked-enum-known-under t)
-    (walked-enum-told-3 t)
-    (walked-returns-5 t)
-    (walked-covered-requires t)
-    (walked-returns-6 t)
-    (walked-repeated-requires t)
-    (walked-returns-7 t)
-    (walked-unvisited-requires t)
-    (walked-returns-8 t)
+    (walked-enum-told t)
+    (walked-same-length t)
+    (walked-returns-2 t)
+    (walked-product-requires t)
+    (walked-add-k t)
+    (walked-loop-less t)
+    (walked-loop-again t)
+    (walked-answered-requires t)
+    (walked-same-length-2 t)
+    (walked-returns-3 t)

@@ -1,5 +1,4 @@
 -- One "at least" hop for $, else as many hops as the range has.
-use Rattle.count.proofs.Bounds.{product-is-small, not-plain-is-small}
 use Rattle.count.proofs.Leaves.{at-least-made, fixed-made}
 use borrow.Author.Needs.{needs}
 use Rattle.count.proofs.delay_counts.Statement.{statement}
@@ -7,9 +6,6 @@ use Rattle.count.proofs.delay_counts.Tie as tie
 
 not-plain-requires : tie.Need-not-plain-requires
 not-plain-requires c κs = search needs
-
-product-requires : tie.Need-product-requires
-product-requires c κs = (search needs, search not-plain-is-small)
 
 returns : tie.Need-returns
 returns c = search at-least-made
@@ -23,11 +19,8 @@ cast-times c = search needs
 add-times : tie.Need-add-times
 add-times c = search needs
 
-product-requires-2 : tie.Need-product-requires-2
-product-requires-2 c κs = search needs
-
 times-requires : tie.Need-times-requires
-times-requires c κs = (search needs, search product-is-small)
+times-requires c κs = search needs
 
 returns-2 : tie.Need-returns-2
 returns-2 c = search fixed-made
@@ -35,13 +28,4 @@ returns-2 c = search fixed-made
 pub delay-counts-spec : {M : Type 1} → statement M
 delay-counts-spec =
     tie.close
-    (tie.spec
-    not-plain-requires
-    product-requires
-    returns
-    sub-times
-    cast-times
-    add-times
-    product-requires-2
-    times-requires
-    returns-2)
+    (tie.spec not-plain-requires returns sub-times cast-times add-times times-requires returns-2)

@@ -1,26 +1,26 @@
 -- `current` goes back over the steps that keep their text, and forth again; where it stands is said in `Back`.
 use borrow.Author.Needs.{needs}
-use Rattle.current.proofs.Walk.{Back, back-begins, back-inside, back-many, back-piece, back-later, back-less, back-room, back-behind, back-on, back-stops, back-base, back-tail, back-rest, back-done}
+use Rattle.current.proofs.Walk.{Back, back-begins, back-piece, back-later, back-less, back-room, back-behind, back-on, back-stops, back-base, back-tail, back-rest, back-done}
 use Rattle.current.proofs.current.Statement.{statement}
 use Rattle.current.proofs.current.Tie as tie
 
 abbrev Inv-loop : tie.InvT-loop
-Inv-loop steps guard j r out₀ at k₀ n₀ p₀ out k n p = Back steps guard out₀ at j r out p k n
+Inv-loop work kept j r out₀ at k₀ register₀ p₀ out k register p = Back work kept out₀ at j r out p k register
 
 abbrev μ-loop : tie.MeasureT-loop
-μ-loop steps guard j r out₀ at k₀ n₀ p₀ out k n p = k
+μ-loop work kept j r out₀ at k₀ register₀ p₀ out k register p = k
 
 loop-holds : tie.Need-loop-holds Inv-loop μ-loop
 loop-holds c = search back-begins
 
 goes-on-requires : tie.Need-goes-on-requires Inv-loop μ-loop
-goes-on-requires c κs = (search back-inside, search back-many)
+goes-on-requires c κs = search needs
 
-sub-i : tie.Need-sub-i Inv-loop μ-loop
-sub-i c = search back-later
+sub-previous : tie.Need-sub-previous Inv-loop μ-loop
+sub-previous c = search back-later
 
 register-before-requires : tie.Need-register-before-requires Inv-loop μ-loop
-register-before-requires c κs = (search back-inside, search back-many, search back-later, search back-behind)
+register-before-requires c κs = (search needs, search needs, search back-later, search back-behind)
 
 prefix-requires : tie.Need-prefix-requires Inv-loop μ-loop
 prefix-requires c κs = (search back-piece, search back-later, search back-room)
@@ -51,7 +51,7 @@ current-spec =
     μ-loop
     loop-holds
     goes-on-requires
-    sub-i
+    sub-previous
     register-before-requires
     prefix-requires
     loop-less

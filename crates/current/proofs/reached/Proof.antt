@@ -29,7 +29,7 @@ returns : tie.Need-returns
 returns c = search reached-done
 
 hop-base-requires : tie.Need-hop-base-requires
-hop-base-requires c κs = (search reached-base, search reached-small, search hop-not-kept)
+hop-base-requires c κs = (search needs, search reached-base, search reached-small, search hop-not-kept)
 
 same-length-2 : tie.Need-same-length-2
 same-length-2 c = search needs

@@ -1,5 +1,5 @@
 -- `suffix` puts the suffix of the step that it reads.
-use Rattle.current.proofs.Walk.{read-suffix-room, read-suffix-done, piece-later, piece-atom}
+use Rattle.current.proofs.Walk.{read-suffix-room, read-suffix-done, piece-later}
 use borrow.Author.Needs.{needs}
 use Rattle.current.proofs.suffix.Statement.{statement}
 use Rattle.current.proofs.suffix.Tie as tie
@@ -8,7 +8,7 @@ step-requires : tie.Need-step-requires
 step-requires c κs = search needs
 
 step-suffix-requires : tie.Need-step-suffix-requires
-step-suffix-requires c κs = (search read-suffix-room, search piece-later, search piece-atom)
+step-suffix-requires c κs = (search read-suffix-room, search piece-later)
 
 same-length : tie.Need-same-length
 same-length c = search needs

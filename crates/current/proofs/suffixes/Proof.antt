@@ -1,21 +1,21 @@
 -- `suffixes` puts one suffix after the other; what is left of them is said in `Forth`.
 use Prim.Native.Nat.{_-_}
 use borrow.Author.Needs.{needs}
-use Rattle.current.proofs.Walk.{Forth, forth-begins, forth-inside, forth-many, forth-high, forth-piece, forth-room, forth-on, forth-ends}
+use Rattle.current.proofs.Walk.{Forth, forth-begins, forth-among, forth-high, forth-piece, forth-room, forth-on, forth-ends}
 use Rattle.current.proofs.suffixes.Statement.{statement}
 use Rattle.current.proofs.suffixes.Tie as tie
 
 abbrev Inv-loop : tie.InvT-loop
-Inv-loop steps k n j out₀ at p₀ i₀ r₀ out p i r = Forth steps out₀ at k n j out p i r
+Inv-loop work kept k r j out₀ at p₀ i₀ register₀ out p i register = Forth work kept out₀ at k r j out p i register
 
 abbrev μ-loop : tie.MeasureT-loop
-μ-loop steps k n j out₀ at p₀ i₀ r₀ out p i r = j - i
+μ-loop work kept k r j out₀ at p₀ i₀ register₀ out p i register = j - i
 
 loop-holds : tie.Need-loop-holds Inv-loop μ-loop
 loop-holds c = search forth-begins
 
 register-after-requires : tie.Need-register-after-requires Inv-loop μ-loop
-register-after-requires c κs = (search forth-inside, search forth-many, search forth-high)
+register-after-requires c κs = (search needs, search forth-among, search forth-high)
 
 add-i : tie.Need-add-i Inv-loop μ-loop
 add-i c = search needs

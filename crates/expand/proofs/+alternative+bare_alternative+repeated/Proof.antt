@@ -3,7 +3,7 @@
 use borrow.Author.Needs.{needs}
 use Prim.Native.Nat.{_+_, _*_}
 use Rattle.expand.proofs.ByKind.{operand-inside}
-use Rattle.expand.proofs.Numbers.{node-inside, bare-below, bare-numbered, bare-node-known, delay-counts, left-below, right-below, left-numbered, right-numbered, left-operand-known, right-operand-known, guarded-below, guarded-numbered, guarded-operand-known, copied, copies-counts, block-below, block-numbered, base-known, copy-below, copy-inside, copy-some, copy-few, copy-numbered}
+use Rattle.expand.proofs.Numbers.{node-inside, bare-below, bare-numbered, delay-counts, left-below, right-below, left-numbered, right-numbered, guarded-below, guarded-numbered, copied, copies-counts, block-below, block-numbered, copy-below, copy-inside, copy-some, copy-few, copy-numbered}
 use Rattle.expand.proofs.Written.{bare-room, bare-written, atom-room, atom-written, left-room, right-room, delay-written, guarded-room, throughout-written, block-room, block-written, single-room, single-written, Repeating, repeating-begins, copy-room, repeating-on, repeating-ends}
 use Prim.Native.Nat.{ℕ, _<_}
 use borrow.Fn.Kinds.{In}
@@ -17,12 +17,12 @@ use Rattle.expand.proofs.+alternative+bare_alternative+repeated.Lts-bar
 use Rattle.expand.proofs.repeated.Reads as repeated
 use Rattle.expand.proofs.repeated.Kinds as repeated-kinds
 use Rattle.expand.proofs.+alternative+bare_alternative+repeated.Lts-repeated as repeated-lts
-use Rattle.expand.proofs.bare_of.Reads as bare-of-reads
 use Rattle.expand.proofs.copies_block.Reads as copies-block-reads
 use Rattle.expand.proofs.copy_number.Reads as copy-number-reads
 use Rattle.expand.proofs.delay_parts.Reads as delay-parts-reads
 use Rattle.expand.proofs.made_of_copies.Reads as made-of-copies-reads
 use Rattle.expand.proofs.single_term.Reads as single-term-reads
+use Rattle.outline.proofs.bare_of.Reads as bare-of-reads
 use Rattle.term.proofs.store.Reads as store-reads
 use Rattle.tree.proofs.read.Reads as read-reads
 use Rattle.expand.proofs.+alternative+bare_alternative+repeated.{statement}
@@ -81,7 +81,7 @@ alternative-bare-of-requires : (t : ℕ) → alternative-lts.Need-bare-of-requir
 alternative-bare-of-requires t c κs = search node-inside
 
 alternative-bare-alternative-requires : (t : ℕ) → alternative-lts.Need-bare-alternative-requires (callees t) (alternative-at t) alternative.Post
-alternative-bare-alternative-requires t c κs = (search bare-below, (search bare-numbered, search bare-node-known, search bare-room))
+alternative-bare-alternative-requires t c κs = (search bare-below, (search bare-numbered, search bare-room))
 
 alternative-same-length : (t : ℕ) → alternative-lts.Need-same-length (callees t) (alternative-at t) alternative.Post
 alternative-same-length t c = search needs
@@ -105,10 +105,10 @@ bare-alternative-delay-parts-requires : (t : ℕ) → bare-alternative-lts.Need-
 bare-alternative-delay-parts-requires t c κs = search delay-counts
 
 bare-alternative-alternative-requires : (t : ℕ) → bare-alternative-lts.Need-alternative-requires (bare-callees t) (bare-alternative-at t) bare-alternative.Post
-bare-alternative-alternative-requires t c κs = (search left-below, (search left-numbered, search left-operand-known, search left-room))
+bare-alternative-alternative-requires t c κs = (search left-below, (search left-numbered, search left-room))
 
 bare-alternative-alternative-requires-2 : (t : ℕ) → bare-alternative-lts.Need-alternative-requires-2 (bare-callees t) (bare-alternative-at t) bare-alternative.Post
-bare-alternative-alternative-requires-2 t c κs = (search right-below, (search right-numbered, search right-operand-known, search right-room))
+bare-alternative-alternative-requires-2 t c κs = (search right-below, (search right-numbered, search right-room))
 
 bare-alternative-same-length-2 : (t : ℕ) → bare-alternative-lts.Need-same-length-2 (bare-callees t) (bare-alternative-at t) bare-alternative.Post
 bare-alternative-same-length-2 t c = search needs
@@ -121,10 +121,10 @@ bare-alternative-returns-2 t c =
     let kind = parts .before in
     let node = kind .before .before .before .before in
     let given = node .before .before .before .before .pre .1 in
-    delay-written _ _ _ (given .0) (given .1) (given .2) (node .read .ensures) (kind .if2 .taken) (parts .delay-parts .ensures) (one .alternative .ensures) (two .alternative2 .ensures)
+    delay-written _ _ _ (given .0) (given .1) (node .read .ensures) (kind .if2 .taken) (parts .delay-parts .ensures) (one .alternative .ensures) (two .alternative2 .ensures)
 
 bare-alternative-alternative-requires-3 : (t : ℕ) → bare-alternative-lts.Need-alternative-requires-3 (bare-callees t) (bare-alternative-at t) bare-alternative.Post
-bare-alternative-alternative-requires-3 t c κs = (search guarded-below, (search guarded-numbered, search guarded-operand-known, search guarded-room))
+bare-alternative-alternative-requires-3 t c κs = (search guarded-below, (search guarded-numbered, search guarded-room))
 
 bare-alternative-same-length-3 : (t : ℕ) → bare-alternative-lts.Need-same-length-3 (bare-callees t) (bare-alternative-at t) bare-alternative.Post
 bare-alternative-same-length-3 t c = search needs
@@ -139,10 +139,10 @@ bare-alternative-copies-block-requires : (t : ℕ) → bare-alternative-lts.Need
 bare-alternative-copies-block-requires t c κs =
     let m = c .before in
     let r = m .before .before .before .before .before .before .before in
-    copies-counts (search needs) (search needs) (r .read .ensures) (copied _ _ (m .made-of-copies .ensures) (c .if4 .taken))
+    copies-counts (search needs) (r .read .ensures) (copied _ _ (m .made-of-copies .ensures) (c .if4 .taken))
 
 bare-alternative-repeated-requires : (t : ℕ) → bare-alternative-lts.Need-repeated-requires (bare-callees t) (bare-alternative-at t) bare-alternative.Post
-bare-alternative-repeated-requires t c κs = (search (block-below, copied), (search (block-numbered, copied), search (base-known, copied), search (block-room, copied)))
+bare-alternative-repeated-requires t c κs = (search (block-below, copied), (search (block-numbered, copied), search (block-room, copied)))
 
 bare-alternative-same-length-4 : (t : ℕ) → bare-alternative-lts.Need-same-length-4 (bare-callees t) (bare-alternative-at t) bare-alternative.Post
 bare-alternative-same-length-4 t c = search needs
@@ -155,7 +155,7 @@ bare-alternative-returns-4 t c =
     let made = told .before in
     let node = made .before .before .before .before .before .before .before in
     let given = node .before .before .before .before .pre .1 in
-    block-written _ _ _ (given .0) (given .1) (given .2) (node .read .ensures) (copied _ _ (made .made-of-copies .ensures) (told .if4 .taken)) (block .copies-block .ensures) (copies .repeated .ensures)
+    block-written _ _ _ (given .0) (given .1) (node .read .ensures) (copied _ _ (made .made-of-copies .ensures) (told .if4 .taken)) (block .copies-block .ensures) (copies .repeated .ensures)
 
 bare-alternative-single-term-requires : (t : ℕ) → bare-alternative-lts.Need-single-term-requires (bare-callees t) (bare-alternative-at t) bare-alternative.Post
 bare-alternative-single-term-requires t c κs = (search operand-inside, search needs)
@@ -189,7 +189,7 @@ repeated-copy-number-requires : (t : ℕ) → repeated-lts.Need-copy-number-requ
 repeated-copy-number-requires t c κs = (search copy-inside, search copy-some, search copy-few)
 
 repeated-alternative-requires : (t : ℕ) → repeated-lts.Need-alternative-requires (copies-callees t) (repeated-at t) repeated.Post repeated-Inv-loop repeated-μ-loop
-repeated-alternative-requires t c κs = (search copy-below, (search copy-numbered, search needs, search copy-room))
+repeated-alternative-requires t c κs = (search copy-below, (search copy-numbered, search copy-room))
 
 repeated-loop-less : (t : ℕ) → repeated-lts.Need-loop-less (copies-callees t) (repeated-at t) repeated.Post repeated-Inv-loop repeated-μ-loop
 repeated-loop-less t c = search needs

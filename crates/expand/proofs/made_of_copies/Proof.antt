@@ -4,8 +4,8 @@ use borrow.Author.Needs.{needs}
 use Rattle.expand.proofs.made_of_copies.Statement.{statement}
 use Rattle.expand.proofs.made_of_copies.Tie as tie
 
-has-copies-requires : tie.Need-has-copies-requires
-has-copies-requires c κs = search needs
+is-repeated-requires : tie.Need-is-repeated-requires
+is-repeated-requires c κs = search needs
 
 empty-count-requires : tie.Need-empty-count-requires
 empty-count-requires c κs = search needs
@@ -18,4 +18,4 @@ returns-2 c = search no-copies
 
 pub made-of-copies-spec : {M : Type 1} → statement M
 made-of-copies-spec =
-    tie.close (tie.spec has-copies-requires empty-count-requires returns returns-2)
+    tie.close (tie.spec is-repeated-requires empty-count-requires returns returns-2)

@@ -1,8 +1,8 @@
--- `apply_term` puts the stores of a later term, variant by variant.
+-- `apply_term` puts the stores of a term, variant by variant.
 use Rattle.fsm.specs.Stores.{term-store-words}
 use Rattle.step_text.specs.Text.{term-registers}
 use Rattle.words.proofs.Laws.{nothing-written}
-use Rattle.fsm.proofs.Laws.{stores-in, stores-room, variant-atom, variant-registers, nonconsec-variant-registers}
+use Rattle.fsm.proofs.Laws.{stores-in, stores-room, starts, starts-extended}
 use borrow.Author.Needs.{needs}
 use Rattle.fsm.proofs.apply_term.Statement.{statement}
 use Rattle.fsm.proofs.apply_term.Tie as tie
@@ -15,21 +15,21 @@ enum-known-x c = search needs
 
 goto-fsm-requires : tie.Need-goto-fsm-requires
 unfolding term-store-words term-registers
-goto-fsm-requires c κs = (search needs, search variant-atom, search variant-registers, search stores-room)
+goto-fsm-requires c κs = (search starts, search stores-room)
 
 enum-known-x-2 : tie.Need-enum-known-x-2
 enum-known-x-2 c = search needs
 
 nonconsec-fsm-requires : tie.Need-nonconsec-fsm-requires
 unfolding term-store-words term-registers
-nonconsec-fsm-requires c κs = (search needs, search variant-atom, search nonconsec-variant-registers, search stores-room)
+nonconsec-fsm-requires c κs = (search starts-extended, search stores-room)
 
 enum-known-x-3 : tie.Need-enum-known-x-3
 enum-known-x-3 c = search needs
 
 consec-run-fsm-requires : tie.Need-consec-run-fsm-requires
 unfolding term-store-words term-registers
-consec-run-fsm-requires c κs = (search needs, search variant-atom, search variant-registers, search stores-room)
+consec-run-fsm-requires c κs = (search starts, search stores-room)
 
 enum-told-2 : tie.Need-enum-told-2
 enum-told-2 c = search needs

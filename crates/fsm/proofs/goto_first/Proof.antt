@@ -1,5 +1,5 @@
 -- `goto_first` puts the store of the first register around the activation.
-use Rattle.fsm.proofs.Laws.{after-one}
+use Rattle.fsm.proofs.Laws.{first-done}
 use borrow.Author.Needs.{needs}
 use Rattle.fsm.proofs.goto_first.Statement.{statement}
 use Rattle.fsm.proofs.goto_first.Tie as tie
@@ -29,7 +29,7 @@ same-length : tie.Need-same-length
 same-length c = search needs
 
 returns : tie.Need-returns
-returns c = search after-one
+returns c = search first-done
 
 pub goto-first-spec : {M : Type 1} → statement M
 goto-first-spec =

@@ -1,51 +1,42 @@
--- `goto_later` puts one stage after the other; what is left of them is said in `Staging`.
-use Prim.Native.Nat.{_-_}
+-- `goto_later` puts what the stage goes on from, then its end.
+use Rattle.fsm.proofs.Laws.{later-done}
 use borrow.Author.Needs.{needs}
-use Rattle.fsm.proofs.Laws.{Staging, staging-begins, staging-room, staging-on, staging-ends}
 use Rattle.fsm.proofs.goto_later.Statement.{statement}
 use Rattle.fsm.proofs.goto_later.Tie as tie
 
-abbrev Inv-loop : tie.InvT-loop
-Inv-loop b r count out₀ at p₀ i₀ out p i = Staging b out₀ at r count out p i
+add-t7 : tie.Need-add-t7
+add-t7 c = search needs
 
-abbrev μ-loop : tie.MeasureT-loop
-μ-loop b r count out₀ at p₀ i₀ out p i = count - i
+sub-t8 : tie.Need-sub-t8
+sub-t8 c = search needs
 
-loop-holds : tie.Need-loop-holds Inv-loop μ-loop
-loop-holds c = search staging-begins
+add-t9 : tie.Need-add-t9
+add-t9 c = search needs
 
-add-goto-next : tie.Need-add-goto-next Inv-loop μ-loop
-add-goto-next c = search needs
+slice-aggregate-copied : tie.Need-slice-aggregate-copied
+slice-aggregate-copied c = search needs
 
-goto-next-requires : tie.Need-goto-next-requires Inv-loop μ-loop
-goto-next-requires c κs = (search staging-room, search needs, search needs, search needs)
+copied-requires : tie.Need-copied-requires
+copied-requires c κs = search needs
 
-add-i : tie.Need-add-i Inv-loop μ-loop
-add-i c = search needs
+goto-end-requires : tie.Need-goto-end-requires
+goto-end-requires c κs = search needs
 
-loop-less : tie.Need-loop-less Inv-loop μ-loop
-loop-less c = search needs
-
-loop-again : tie.Need-loop-again Inv-loop μ-loop
-loop-again c = search staging-on
-
-same-length : tie.Need-same-length Inv-loop μ-loop
+same-length : tie.Need-same-length
 same-length c = search needs
 
-returns : tie.Need-returns Inv-loop μ-loop
-returns c = search staging-ends
+returns : tie.Need-returns
+returns c = search later-done
 
 pub goto-later-spec : {M : Type 1} → statement M
 goto-later-spec =
     tie.close
     (tie.spec
-    Inv-loop
-    μ-loop
-    loop-holds
-    add-goto-next
-    goto-next-requires
-    add-i
-    loop-less
-    loop-again
+    add-t7
+    sub-t8
+    add-t9
+    slice-aggregate-copied
+    copied-requires
+    goto-end-requires
     same-length
     returns)

@@ -1,14 +1,14 @@
 -- `goto_second` puts the store of the second register around the activation.
-use Rattle.fsm.proofs.Laws.{after-three}
+use Rattle.fsm.proofs.Laws.{second-done}
 use borrow.Author.Needs.{needs}
 use Rattle.fsm.proofs.goto_second.Statement.{statement}
 use Rattle.fsm.proofs.goto_second.Tie as tie
 
-add-t12 : tie.Need-add-t12
-add-t12 c = search needs
+add-goto-end : tie.Need-add-goto-end
+add-goto-end c = search needs
 
-add-t13 : tie.Need-add-t13
-add-t13 c = search needs
+add-t15 : tie.Need-add-t15
+add-t15 c = search needs
 
 slice-aggregate-copied : tie.Need-slice-aggregate-copied
 slice-aggregate-copied c = search needs
@@ -19,48 +19,32 @@ copied-requires c κs = search needs
 activation-requires : tie.Need-activation-requires
 activation-requires c κs = search needs
 
-add-t12-2 : tie.Need-add-t12-2
-add-t12-2 c = search needs
+put-requires : tie.Need-put-requires
+put-requires c κs = search needs
 
-add-t13-2 : tie.Need-add-t13-2
-add-t13-2 c = search needs
+add-goto-end-2 : tie.Need-add-goto-end-2
+add-goto-end-2 c = search needs
 
-add-t21 : tie.Need-add-t21
-add-t21 c = search needs
-
-add-t22 : tie.Need-add-t22
-add-t22 c = search needs
-
-add-t23 : tie.Need-add-t23
-add-t23 c = search needs
-
-slice-aggregate-copied-2 : tie.Need-slice-aggregate-copied-2
-slice-aggregate-copied-2 c = search needs
-
-copied-requires-2 : tie.Need-copied-requires-2
-copied-requires-2 c κs = search needs
+goto-end-requires : tie.Need-goto-end-requires
+goto-end-requires c κs = search needs
 
 same-length : tie.Need-same-length
 same-length c = search needs
 
 returns : tie.Need-returns
-returns c = search after-three
+returns c = search second-done
 
 pub goto-second-spec : {M : Type 1} → statement M
 goto-second-spec =
     tie.close
     (tie.spec
-    add-t12
-    add-t13
+    add-goto-end
+    add-t15
     slice-aggregate-copied
     copied-requires
     activation-requires
-    add-t12-2
-    add-t13-2
-    add-t21
-    add-t22
-    add-t23
-    slice-aggregate-copied-2
-    copied-requires-2
+    put-requires
+    add-goto-end-2
+    goto-end-requires
     same-length
     returns)

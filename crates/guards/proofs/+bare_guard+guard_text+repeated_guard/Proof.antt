@@ -2,7 +2,7 @@
 -- copies are joined one after the other.
 use borrow.Author.Needs.{needs}
 use Prim.Native.Nat.{_+_, _*_}
-use Rattle.expand.proofs.Numbers.{node-inside, bare-below, bare-numbered, bare-node-known, delay-counts, left-below, right-below, left-numbered, right-numbered, left-operand-known, right-operand-known, guarded-below, guarded-numbered, guarded-operand-known, copied, copies-counts, block-below, block-numbered, base-known, copy-below, copy-inside, copy-some, copy-few, copy-numbered}
+use Rattle.expand.proofs.Numbers.{node-inside, bare-below, bare-numbered, delay-counts, left-below, right-below, left-numbered, right-numbered, guarded-below, guarded-numbered, copied, copies-counts, block-below, block-numbered, copy-below, copy-inside, copy-some, copy-few, copy-numbered}
 use Rattle.guards.proofs.Laws.{unguarded-text, bare-guard-room, bare-guarded, left-room, right-room, delay-join-room, delay-guarded, condition-small, under-room, condition-room, throughout-join-room, throughout-guarded, block-room, block-guarded, single-unguarded, Joining, joining-begins, copy-room, copy-join-room, joining-on, joining-ends}
 use Prim.Native.Nat.{ℕ, _<_}
 use borrow.Fn.Kinds.{In}
@@ -16,11 +16,11 @@ use Rattle.guards.proofs.+bare_guard+guard_text+repeated_guard.Lts-guar
 use Rattle.guards.proofs.repeated_guard.Reads as repeated-guard
 use Rattle.guards.proofs.repeated_guard.Kinds as repeated-guard-kinds
 use Rattle.guards.proofs.+bare_guard+guard_text+repeated_guard.Lts-repeated_guard as repeated-guard-lts
-use Rattle.expand.proofs.bare_of.Reads as bare-of-reads
+use Rattle.outline.proofs.bare_of.Reads as bare-of-reads
 use Rattle.expand.proofs.copies_block.Reads as copies-block-reads
 use Rattle.expand.proofs.copy_number.Reads as copy-number-reads
 use Rattle.expand.proofs.delay_parts.Reads as delay-parts-reads
-use Rattle.expand.proofs.flag_of.Reads as flag-of-reads
+use Rattle.outline.proofs.flag_of.Reads as flag-of-reads
 use Rattle.expand.proofs.made_of_copies.Reads as made-of-copies-reads
 use Rattle.guards.proofs.join_guards.Reads as join-guards-reads
 use Rattle.guards.proofs.put_condition.Reads as put-condition-reads
@@ -85,10 +85,10 @@ bare-guard-delay-parts-requires : (t : ℕ) → bare-guard-lts.Need-delay-parts-
 bare-guard-delay-parts-requires t c κs = search delay-counts
 
 bare-guard-guard-text-requires : (t : ℕ) → bare-guard-lts.Need-guard-text-requires (callees t) (bare-guard-at t) bare-guard.Post
-bare-guard-guard-text-requires t c κs = (search left-below, (search left-numbered, search left-operand-known, search left-room))
+bare-guard-guard-text-requires t c κs = (search left-below, (search left-numbered, search left-room))
 
 bare-guard-guard-text-requires-2 : (t : ℕ) → bare-guard-lts.Need-guard-text-requires-2 (callees t) (bare-guard-at t) bare-guard.Post
-bare-guard-guard-text-requires-2 t c κs = (search right-below, (search right-numbered, search right-operand-known, search right-room))
+bare-guard-guard-text-requires-2 t c κs = (search right-below, (search right-numbered, search right-room))
 
 bare-guard-join-guards-requires : (t : ℕ) → bare-guard-lts.Need-join-guards-requires (callees t) (bare-guard-at t) bare-guard.Post
 bare-guard-join-guards-requires t c κs = search delay-join-room
@@ -104,10 +104,10 @@ bare-guard-returns t c =
     let d = f .before .before in
     let r = d .before .before .before in
     let p = r .before .before .before .before .pre .1 in
-    delay-guarded _ _ (p .0) (p .1) (p .2) (r .read .ensures) (d .before .if1 .taken) (d .delay-parts .ensures) (f .guard-text .ensures) (g .guard-text2 .ensures) (j .join-guards .ensures)
+    delay-guarded _ _ (p .0) (p .1) (r .read .ensures) (d .before .if1 .taken) (d .delay-parts .ensures) (f .guard-text .ensures) (g .guard-text2 .ensures) (j .join-guards .ensures)
 
 bare-guard-guard-text-requires-3 : (t : ℕ) → bare-guard-lts.Need-guard-text-requires-3 (callees t) (bare-guard-at t) bare-guard.Post
-bare-guard-guard-text-requires-3 t c κs = (search guarded-below, (search guarded-numbered, search guarded-operand-known, search under-room))
+bare-guard-guard-text-requires-3 t c κs = (search guarded-below, (search guarded-numbered, search under-room))
 
 bare-guard-put-condition-requires : (t : ℕ) → bare-guard-lts.Need-put-condition-requires (callees t) (bare-guard-at t) bare-guard.Post
 bare-guard-put-condition-requires t c κs = (search condition-room, search condition-small)
@@ -128,10 +128,10 @@ bare-guard-copies-block-requires : (t : ℕ) → bare-guard-lts.Need-copies-bloc
 bare-guard-copies-block-requires t c κs =
     let m = c .before in
     let r = m .before .before .before .before .before in
-    copies-counts (search needs) (search needs) (r .read .ensures) (copied _ _ (m .made-of-copies .ensures) (c .if3 .taken))
+    copies-counts (search needs) (r .read .ensures) (copied _ _ (m .made-of-copies .ensures) (c .if3 .taken))
 
 bare-guard-repeated-guard-requires : (t : ℕ) → bare-guard-lts.Need-repeated-guard-requires (callees t) (bare-guard-at t) bare-guard.Post
-bare-guard-repeated-guard-requires t c κs = (search (block-below, copied), (search (block-numbered, copied), search (base-known, copied), search (block-room, copied)))
+bare-guard-repeated-guard-requires t c κs = (search (block-below, copied), (search (block-numbered, copied), search (block-room, copied)))
 
 bare-guard-same-length-3 : (t : ℕ) → bare-guard-lts.Need-same-length-3 (callees t) (bare-guard-at t) bare-guard.Post
 bare-guard-same-length-3 t c = search needs
@@ -152,7 +152,7 @@ guard-text-bare-of-requires : (t : ℕ) → guard-text-lts.Need-bare-of-requires
 guard-text-bare-of-requires t c κs = search node-inside
 
 guard-text-bare-guard-requires : (t : ℕ) → guard-text-lts.Need-bare-guard-requires (text-callees t) (guard-text-at t) guard-text.Post
-guard-text-bare-guard-requires t c κs = (search bare-below, (search bare-numbered, search bare-node-known, search bare-guard-room))
+guard-text-bare-guard-requires t c κs = (search bare-below, (search bare-numbered, search bare-guard-room))
 
 guard-text-same-length : (t : ℕ) → guard-text-lts.Need-same-length (text-callees t) (guard-text-at t) guard-text.Post
 guard-text-same-length t c = search needs
@@ -179,7 +179,7 @@ repeated-guard-copy-number-requires : (t : ℕ) → repeated-guard-lts.Need-copy
 repeated-guard-copy-number-requires t c κs = (search copy-inside, search copy-some, search copy-few)
 
 repeated-guard-guard-text-requires : (t : ℕ) → repeated-guard-lts.Need-guard-text-requires (copies-callees t) (repeated-guard-at t) repeated-guard.Post repeated-guard-Inv-loop repeated-guard-μ-loop
-repeated-guard-guard-text-requires t c κs = (search copy-below, (search copy-numbered, search needs, search copy-room))
+repeated-guard-guard-text-requires t c κs = (search copy-below, (search copy-numbered, search copy-room))
 
 repeated-guard-join-guards-requires : (t : ℕ) → repeated-guard-lts.Need-join-guards-requires (copies-callees t) (repeated-guard-at t) repeated-guard.Post repeated-guard-Inv-loop repeated-guard-μ-loop
 repeated-guard-join-guards-requires t c κs = search copy-join-room

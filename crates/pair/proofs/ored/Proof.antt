@@ -1,15 +1,15 @@
 -- `ored` writes two words a register; what is left of them is said in `Oring`.
 use borrow.Author.Needs.{needs}
-use Rattle.pair.proofs.Delays.{Oring, oring-begins, oring-on, oring-ends}
 use Prim.Native.Nat.{_-_}
+use Rattle.pair.proofs.Delays.{Oring, oring-begins, oring-on, oring-ends}
 use Rattle.pair.proofs.ored.Statement.{statement}
 use Rattle.pair.proofs.ored.Tie as tie
 
 abbrev Inv-loop : tie.InvT-loop
-Inv-loop n d out₀ at p₀ k₀ out p k = Oring n d out₀ at out p k
+Inv-loop r d out₀ at p₀ k₀ out p k = Oring r d out₀ at out p k
 
 abbrev μ-loop : tie.MeasureT-loop
-μ-loop n d out₀ at p₀ k₀ out p k = d - k
+μ-loop r d out₀ at p₀ k₀ out p k = d - k
 
 loop-holds : tie.Need-loop-holds Inv-loop μ-loop
 loop-holds c = search oring-begins

@@ -1,14 +1,15 @@
 -- `slide_stores` writes the text once, then one register after the other.
 use borrow.Author.Needs.{needs}
-use Rattle.pipeline.proofs.Laws.{no-delays, fixed-text-room, fixed-store-room, fixed-rest-room, fixed-done}
+use Rattle.pipeline.proofs.Laws.{no-delays, fixed-text-room, fixed-store-room}
+use Rattle.pair.proofs.Pairs.{slide-whole, slide-rest-room, slide-done}
 use Rattle.pair.proofs.slide_stores.Statement.{statement}
 use Rattle.pair.proofs.slide_stores.Tie as tie
 
 returns : tie.Need-returns
 returns c = search no-delays
 
-text-of-requires : tie.Need-text-of-requires
-text-of-requires c κs = (search needs, search needs, search fixed-text-room)
+text-requires : tie.Need-text-requires
+text-requires c κs = (search needs, search fixed-text-room)
 
 add-put : tie.Need-add-put
 add-put c = search needs
@@ -16,8 +17,8 @@ add-put c = search needs
 put-requires : tie.Need-put-requires
 put-requires c κs = search fixed-store-room
 
-slice-aggregate-delays : tie.Need-slice-aggregate-delays
-slice-aggregate-delays c = search needs
+without-guard-requires : tie.Need-without-guard-requires
+without-guard-requires c κs = search needs
 
 add-delays : tie.Need-add-delays
 add-delays c = search needs
@@ -26,23 +27,23 @@ sub-delays : tie.Need-sub-delays
 sub-delays c = search needs
 
 delays-requires : tie.Need-delays-requires
-delays-requires c κs = (search needs, search needs, search fixed-rest-room)
+delays-requires c κs = (search slide-whole, search needs, search needs, search slide-rest-room)
 
 same-length : tie.Need-same-length
 same-length c = search needs
 
 returns-2 : tie.Need-returns-2
-returns-2 c = search fixed-done
+returns-2 c = search slide-done
 
 pub slide-stores-spec : {M : Type 1} → statement M
 slide-stores-spec =
     tie.close
     (tie.spec
     returns
-    text-of-requires
+    text-requires
     add-put
     put-requires
-    slice-aggregate-delays
+    without-guard-requires
     add-delays
     sub-delays
     delays-requires

@@ -6,10 +6,10 @@ use Rattle.pair.proofs.window_len.Statement.{statement}
 use Rattle.pair.proofs.window_len.Tie as tie
 
 abbrev Inv-loop : tie.InvT-loop
-Inv-loop steps count total₀ k₀ total k = Windowing steps total k
+Inv-loop work kept total₀ k₀ total k = Windowing work kept total k
 
 abbrev μ-loop : tie.MeasureT-loop
-μ-loop steps count total₀ k₀ total k = count - k
+μ-loop work kept total₀ k₀ total k = kept .steps - k
 
 loop-holds : tie.Need-loop-holds Inv-loop μ-loop
 loop-holds c = search windowing-begins

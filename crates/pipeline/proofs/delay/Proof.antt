@@ -1,5 +1,5 @@
 -- `delay` puts the register before, the guard and the store.
-use Rattle.fsm.proofs.Laws.{after-one}
+use Rattle.pipeline.proofs.Laws.{after-one}
 use borrow.Author.Needs.{needs}
 use Rattle.pipeline.proofs.delay.Statement.{statement}
 use Rattle.pipeline.proofs.delay.Tie as tie

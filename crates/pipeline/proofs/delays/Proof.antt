@@ -1,15 +1,28 @@
 -- `delays` puts one delay after the other; what is left of them is said in `Delaying`.
 use Prim.Native.Nat.{_-_}
-use borrow.Author.Needs.{needs}
+use Rattle.term.specs.Keeping.{guard-of}
 use Rattle.pipeline.proofs.Laws.{Delaying, delaying-begins, delaying-room, delaying-on, delaying-ends}
+use borrow.Author.Needs.{needs}
 use Rattle.pipeline.proofs.delays.Statement.{statement}
 use Rattle.pipeline.proofs.delays.Tie as tie
 
 abbrev Inv-loop : tie.InvT-loop
-Inv-loop guard r d out₀ at p₀ i₀ out p i = Delaying guard out₀ at r d out p i
+Inv-loop work r d out₀ at from to guard p₀ i₀ out p i = Delaying guard out₀ at r d out p i
 
 abbrev μ-loop : tie.MeasureT-loop
-μ-loop guard r d out₀ at p₀ i₀ out p i = d - i
+μ-loop work r d out₀ at from to guard p₀ i₀ out p i = d - i
+
+mul-guard : tie.Need-mul-guard Inv-loop μ-loop
+mul-guard c = search needs
+
+sub-guard : tie.Need-sub-guard Inv-loop μ-loop
+sub-guard c = search needs
+
+part-guard-start : tie.Need-part-guard-start Inv-loop μ-loop
+part-guard-start c = search needs
+
+part-guard-end : tie.Need-part-guard-end Inv-loop μ-loop
+part-guard-end c = search needs
 
 loop-holds : tie.Need-loop-holds Inv-loop μ-loop
 loop-holds c = search delaying-begins
@@ -18,6 +31,7 @@ add-delay : tie.Need-add-delay Inv-loop μ-loop
 add-delay c = search needs
 
 delay-requires : tie.Need-delay-requires Inv-loop μ-loop
+unfolding guard-of
 delay-requires c κs = (search needs, search needs, search delaying-room)
 
 add-i : tie.Need-add-i Inv-loop μ-loop
@@ -33,6 +47,7 @@ same-length : tie.Need-same-length Inv-loop μ-loop
 same-length c = search needs
 
 returns : tie.Need-returns Inv-loop μ-loop
+unfolding guard-of
 returns c = search delaying-ends
 
 pub delays-spec : {M : Type 1} → statement M
@@ -41,6 +56,10 @@ delays-spec =
     (tie.spec
     Inv-loop
     μ-loop
+    mul-guard
+    sub-guard
+    part-guard-start
+    part-guard-end
     loop-holds
     add-delay
     delay-requires

@@ -1,15 +1,15 @@
 -- `empties_fit` looks at hop after hop up to one that does not fit; what is left of them is said in `Fitting`.
 use Prim.Native.Nat.{_-_}
-use borrow.Author.Needs.{needs}
 use Rattle.pipeline.proofs.Fit.{Fitting, fitting-begins, fitting-on, fitting-fails, fitting-ends}
+use borrow.Author.Needs.{needs}
 use Rattle.pipeline.proofs.empties_fit.Statement.{statement}
 use Rattle.pipeline.proofs.empties_fit.Tie as tie
 
 abbrev Inv-loop : tie.InvT-loop
-Inv-loop steps count before₀ k₀ before k = Fitting steps count before k
+Inv-loop work kept before₀ k₀ before k = Fitting work kept before k
 
 abbrev μ-loop : tie.MeasureT-loop
-μ-loop steps count before₀ k₀ before k = count - k
+μ-loop work kept before₀ k₀ before k = kept .steps - k
 
 loop-holds : tie.Need-loop-holds Inv-loop μ-loop
 loop-holds c = search fitting-begins

@@ -23,7 +23,7 @@ sub-delays : tie.Need-sub-delays
 sub-delays c = search needs
 
 delays-requires : tie.Need-delays-requires
-delays-requires c κs = (search needs, search needs, search fixed-rest-room)
+delays-requires c κs = (search needs, search needs, search needs, search fixed-rest-room)
 
 same-length : tie.Need-same-length
 same-length c = search needs

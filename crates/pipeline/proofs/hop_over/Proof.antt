@@ -11,7 +11,7 @@ enum-known-h c = search needs
 
 fixed-requires : tie.Need-fixed-requires
 unfolding hop-store-words hop-registers
-fixed-requires c κs = (search needs, search needs, search hop-variant, search hop-room)
+fixed-requires c κs = (search needs, search needs, search needs, search hop-variant, search hop-room)
 
 enum-known-h-2 : tie.Need-enum-known-h-2
 enum-known-h-2 c = search needs

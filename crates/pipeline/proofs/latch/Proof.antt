@@ -1,5 +1,5 @@
 -- `latch` puts the latch around the text before.
-use Rattle.fsm.proofs.Laws.{after-one}
+use Rattle.pipeline.proofs.Laws.{after-one}
 use borrow.Author.Needs.{needs}
 use Rattle.pipeline.proofs.latch.Statement.{statement}
 use Rattle.pipeline.proofs.latch.Tie as tie

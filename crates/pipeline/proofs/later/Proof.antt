@@ -1,6 +1,6 @@
 -- `later` puts the stores of the hop, then those of the term.
 use Rattle.current.proofs.Walk.{reached-small}
-use Rattle.pipeline.proofs.Laws.{later-small, later-atom, later-term-small, later-hop-room, later-term-room, later-done}
+use Rattle.pipeline.proofs.Laws.{later-small, later-term-fits, later-hop-room, later-term-room, later-done, later-without-machine}
 use borrow.Author.Needs.{needs}
 use Rattle.pipeline.proofs.later.Statement.{statement}
 use Rattle.pipeline.proofs.later.Tie as tie
@@ -17,14 +17,23 @@ term-register-requires c κs = search later-small
 hop-over-requires : tie.Need-hop-over-requires
 hop-over-requires c κs = (search needs, search needs, search reached-small, search later-hop-room)
 
-apply-term-requires : tie.Need-apply-term-requires
-apply-term-requires c κs = (search needs, search later-atom, search later-term-small, search later-term-room)
+term-registers-requires : tie.Need-term-registers-requires
+term-registers-requires c κs = search needs
 
 same-length : tie.Need-same-length
 same-length c = search needs
 
 returns : tie.Need-returns
-returns c = search later-done
+returns c = search later-without-machine
+
+apply-term-requires : tie.Need-apply-term-requires
+apply-term-requires c κs = (search needs, search later-term-fits, search later-term-room)
+
+same-length-2 : tie.Need-same-length-2
+same-length-2 c = search needs
+
+returns-2 : tie.Need-returns-2
+returns-2 c = search later-done
 
 pub later-spec : {M : Type 1} → statement M
 later-spec =
@@ -34,6 +43,9 @@ later-spec =
     reach-requires
     term-register-requires
     hop-over-requires
-    apply-term-requires
+    term-registers-requires
     same-length
-    returns)
+    returns
+    apply-term-requires
+    same-length-2
+    returns-2)

@@ -1,24 +1,24 @@
 -- `laters` puts the stores of step after step; what is left of them is said in `Storing`.
 use Prim.Native.Nat.{_-_}
+use Rattle.pipeline.proofs.Laws.{Storing, first-high, storing-begins, storing-high, storing-ready, storing-later, storing-room, storing-on, storing-ends}
 use borrow.Author.Needs.{needs}
-use Rattle.pipeline.proofs.Laws.{Storing, first-inside, first-high, storing-begins, storing-inside, storing-many, storing-high, storing-ready, storing-later, storing-room, storing-on, storing-ends}
 use Rattle.pipeline.proofs.laters.Statement.{statement}
 use Rattle.pipeline.proofs.laters.Tie as tie
 
 abbrev Inv-loop : tie.InvT-loop
-Inv-loop steps guard count n out₀ at p₀ k₀ r₀ out p k r = Storing steps guard out₀ at count n out p k r
+Inv-loop work kept out₀ at p₀ k₀ r₀ out p k r = Storing work kept out₀ at out p k r
 
 abbrev μ-loop : tie.MeasureT-loop
-μ-loop steps guard count n out₀ at p₀ k₀ r₀ out p k r = count - k
+μ-loop work kept out₀ at p₀ k₀ r₀ out p k r = kept .steps - k
 
 register-after-requires : tie.Need-register-after-requires Inv-loop μ-loop
-register-after-requires c κs = (search first-inside, search needs, search first-high)
+register-after-requires c κs = (search needs, search needs, search first-high)
 
 loop-holds : tie.Need-loop-holds Inv-loop μ-loop
 loop-holds c = search storing-begins
 
 register-after-requires-2 : tie.Need-register-after-requires-2 Inv-loop μ-loop
-register-after-requires-2 c κs = (search storing-inside, search storing-many, search storing-high)
+register-after-requires-2 c κs = (search needs, search needs, search storing-high)
 
 later-requires : tie.Need-later-requires Inv-loop μ-loop
 later-requires c κs = (search storing-ready, search storing-later, search storing-room)

@@ -1,15 +1,15 @@
 -- `registers` adds the registers of step after step; what is left of them is said in `Summing`.
 use Prim.Native.Nat.{_-_}
-use borrow.Author.Needs.{needs}
 use Rattle.pipeline.proofs.Fit.{Summing, summing-begins, summing-on, summing-ends, summing-small}
+use borrow.Author.Needs.{needs}
 use Rattle.pipeline.proofs.registers.Statement.{statement}
 use Rattle.pipeline.proofs.registers.Tie as tie
 
 abbrev Inv-loop : tie.InvT-loop
-Inv-loop steps count sum₀ k₀ sum k = Summing steps count sum k
+Inv-loop work kept count sum₀ k₀ sum k = Summing work kept count sum k
 
 abbrev μ-loop : tie.MeasureT-loop
-μ-loop steps count sum₀ k₀ sum k = count - k
+μ-loop work kept count sum₀ k₀ sum k = count - k
 
 loop-holds : tie.Need-loop-holds Inv-loop μ-loop
 loop-holds c = search summing-begins

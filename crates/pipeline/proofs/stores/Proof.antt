@@ -1,5 +1,5 @@
 -- `stores` puts the first term's stores, then those of the later steps.
-use Rattle.pipeline.proofs.Laws.{seed-ready, seed-atom, seed-small, seed-room, laters-room, stores-done}
+use Rattle.pipeline.proofs.Laws.{seed-ready, seed-fits, seed-room, laters-room, stores-done}
 use borrow.Author.Needs.{needs}
 use Rattle.pipeline.proofs.stores.Statement.{statement}
 use Rattle.pipeline.proofs.stores.Tie as tie
@@ -7,8 +7,8 @@ use Rattle.pipeline.proofs.stores.Tie as tie
 step-requires : tie.Need-step-requires
 step-requires c κs = search needs
 
-seed-requires : tie.Need-seed-requires
-seed-requires c κs = (search seed-ready, search seed-atom, search seed-small, search seed-room)
+apply-term-requires : tie.Need-apply-term-requires
+apply-term-requires c κs = (search seed-ready, search seed-fits, search seed-room)
 
 laters-requires : tie.Need-laters-requires
 laters-requires c κs = (search needs, search laters-room)
@@ -20,4 +20,4 @@ returns : tie.Need-returns
 returns c = search stores-done
 
 pub stores-spec : {M : Type 1} → statement M
-stores-spec = tie.close (tie.spec step-requires seed-requires laters-requires same-length returns)
+stores-spec = tie.close (tie.spec step-requires apply-term-requires laters-requires same-length returns)

@@ -1,7 +1,7 @@
 -- `hop_stores` counts the stores of a hop, variant by variant.
 use Rattle.sizes.specs.Sizes.{hop-stores-size}
 use Rattle.step_text.specs.Text.{hop-registers}
-use Rattle.sizes.proofs.Laws.{hop-variant, late-variant, late-fits}
+use Rattle.sizes.proofs.Laws.{hop-variant}
 use borrow.Author.Needs.{needs}
 use Rattle.sizes.proofs.hop_stores.Statement.{statement}
 use Rattle.sizes.proofs.hop_stores.Tie as tie
@@ -19,25 +19,20 @@ delays-requires c κs = (search needs, search hop-variant, search needs)
 enum-known-h-2 : tie.Need-enum-known-h-2
 enum-known-h-2 c = search needs
 
-cast-less : tie.Need-cast-less
-cast-less c = search needs
+add-result : tie.Need-add-result
+add-result c = search needs
 
-less-requires : tie.Need-less-requires
-less-requires c κs = search needs
+one-less-requires : tie.Need-one-less-requires
+one-less-requires c κs = search needs
 
-delays-requires-2 : tie.Need-delays-requires-2
-unfolding hop-registers
-delays-requires-2 c κs = (search needs, search late-variant, search needs)
+cast-result : tie.Need-cast-result
+cast-result c = search needs
 
-add-either : tie.Need-add-either
-add-either c = search needs
+mul-result : tie.Need-mul-result
+mul-result c = search needs
 
-add-either-2 : tie.Need-add-either-2
-unfolding hop-registers
-add-either-2 c = search (late-fits, late-variant)
-
-either-requires : tie.Need-either-requires
-either-requires c κs = search needs
+add-result-2 : tie.Need-add-result-2
+add-result-2 c = search needs
 
 returns : tie.Need-returns
 unfolding hop-stores-size
@@ -55,11 +50,10 @@ hop-stores-spec =
     cast-delays
     delays-requires
     enum-known-h-2
-    cast-less
-    less-requires
-    delays-requires-2
-    add-either
-    add-either-2
-    either-requires
+    add-result
+    one-less-requires
+    cast-result
+    mul-result
+    add-result-2
     returns
     returns-2)

@@ -1,18 +1,21 @@
 -- `sizes` counts step after step; what is left of them is said in `Sizing`.
 use Prim.Native.Nat.{_-_}
+use Rattle.sizes.proofs.Laws.{Sizing, guard-short, sizing-begins, sizing-guard, sizing-text, sizing-stores, sizing-registers, sizing-on, sizing-ends}
 use borrow.Author.Needs.{needs}
-use Rattle.sizes.proofs.Laws.{Sizing, first-inside, guard-short, sizing-begins, sizing-inside, sizing-many, sizing-guard, sizing-text, sizing-stores, sizing-registers, sizing-on, sizing-ends}
 use Rattle.sizes.proofs.sizes.Statement.{statement}
 use Rattle.sizes.proofs.sizes.Tie as tie
 
 abbrev Inv-loop : tie.InvT-loop
-Inv-loop steps guard count g z₀ k₀ z k = Sizing steps guard count g z k
+Inv-loop work kept g z₀ k₀ z k = Sizing work kept g z k
 
 abbrev μ-loop : tie.MeasureT-loop
-μ-loop steps guard count g z₀ k₀ z k = count - k
+μ-loop work kept g z₀ k₀ z k = kept .steps - k
+
+sub-g : tie.Need-sub-g Inv-loop μ-loop
+sub-g c = search needs
 
 step-requires : tie.Need-step-requires Inv-loop μ-loop
-step-requires c κs = (search first-inside, search needs)
+step-requires c κs = search needs
 
 first-size-requires : tie.Need-first-size-requires Inv-loop μ-loop
 first-size-requires c κs = search guard-short
@@ -21,7 +24,7 @@ loop-holds : tie.Need-loop-holds Inv-loop μ-loop
 loop-holds c = search sizing-begins
 
 step-requires-2 : tie.Need-step-requires-2 Inv-loop μ-loop
-step-requires-2 c κs = (search sizing-inside, search sizing-many)
+step-requires-2 c κs = search needs
 
 step-size-requires : tie.Need-step-size-requires Inv-loop μ-loop
 step-size-requires c κs = (search sizing-guard, search sizing-registers, search sizing-text, search sizing-stores)
@@ -44,6 +47,7 @@ sizes-spec =
     (tie.spec
     Inv-loop
     μ-loop
+    sub-g
     step-requires
     first-size-requires
     loop-holds

@@ -10,26 +10,17 @@ enum-told c = search needs
 enum-known-x : tie.Need-enum-known-x
 enum-known-x c = search needs
 
-cast-goto-size : tie.Need-cast-goto-size
-cast-goto-size c = search needs
-
 goto-size-requires : tie.Need-goto-size-requires
 goto-size-requires c κs = search needs
 
 enum-known-x-2 : tie.Need-enum-known-x-2
 enum-known-x-2 c = search needs
 
-cast-nonconsec-size : tie.Need-cast-nonconsec-size
-cast-nonconsec-size c = search needs
-
 nonconsec-size-requires : tie.Need-nonconsec-size-requires
 nonconsec-size-requires c κs = search needs
 
 enum-known-x-3 : tie.Need-enum-known-x-3
 enum-known-x-3 c = search needs
-
-cast-run-size : tie.Need-cast-run-size
-cast-run-size c = search needs
 
 run-size-requires : tie.Need-run-size-requires
 run-size-requires c κs = search needs
@@ -63,13 +54,10 @@ term-stores-spec =
     (tie.spec
     enum-told
     enum-known-x
-    cast-goto-size
     goto-size-requires
     enum-known-x-2
-    cast-nonconsec-size
     nonconsec-size-requires
     enum-known-x-3
-    cast-run-size
     run-size-requires
     enum-told-2
     returns

@@ -5,10 +5,10 @@ use Rattle.step_text.proofs.first.Statement.{statement}
 use Rattle.step_text.proofs.first.Tie as tie
 
 lead-requires : tie.Need-lead-requires
-lead-requires c κs = (search lead-first, search needs, search needs)
+lead-requires c κs = (search lead-first, search needs)
 
-copied-requires : tie.Need-copied-requires
-copied-requires c κs = search lead-then
+put-guard-requires : tie.Need-put-guard-requires
+put-guard-requires c κs = (search needs, search lead-then)
 
 same-length : tie.Need-same-length
 same-length c = search needs
@@ -17,4 +17,4 @@ returns : tie.Need-returns
 returns c = search lead-done
 
 pub first-spec : {M : Type 1} → statement M
-first-spec = tie.close (tie.spec lead-requires copied-requires same-length returns)
+first-spec = tie.close (tie.spec lead-requires put-guard-requires same-length returns)

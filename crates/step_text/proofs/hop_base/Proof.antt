@@ -21,9 +21,9 @@ put-requires : tie.Need-put-requires
 unfolding hop-base
 put-requires c κs = search hop-base-first
 
-copied-requires : tie.Need-copied-requires
+put-guard-requires : tie.Need-put-guard-requires
 unfolding hop-base
-copied-requires c κs = search hop-base-rest
+put-guard-requires c κs = (search needs, search hop-base-rest)
 
 enum-known-h-2 : tie.Need-enum-known-h-2
 enum-known-h-2 c = search needs
@@ -64,7 +64,7 @@ hop-base-spec =
     sub-put
     add-put-2
     put-requires
-    copied-requires
+    put-guard-requires
     enum-known-h-2
     add-put-3
     sub-put-2

@@ -23,21 +23,21 @@ enum-told c = search needs
 
 lead-machine-requires : tie.Need-lead-machine-requires
 unfolding lead-text
-lead-machine-requires c κs = (search lead-machine-room, search needs, search needs)
+lead-machine-requires c κs = (search lead-machine-room, search needs)
 
 enum-told-2 : tie.Need-enum-told-2
 enum-told-2 c = search needs
 
 lead-machine-requires-2 : tie.Need-lead-machine-requires-2
 unfolding lead-text
-lead-machine-requires-2 c κs = (search lead-machine-room, search needs, search needs)
+lead-machine-requires-2 c κs = (search lead-machine-room, search needs)
 
 enum-told-3 : tie.Need-enum-told-3
 enum-told-3 c = search needs
 
 lead-machine-requires-3 : tie.Need-lead-machine-requires-3
 unfolding lead-text
-lead-machine-requires-3 c κs = (search lead-machine-room, search needs, search needs)
+lead-machine-requires-3 c κs = (search lead-machine-room, search needs)
 
 enum-told-4 : tie.Need-enum-told-4
 enum-told-4 c = search needs

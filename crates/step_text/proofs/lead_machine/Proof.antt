@@ -8,7 +8,7 @@ term-keeps-requires : tie.Need-term-keeps-requires
 term-keeps-requires c κs = search needs
 
 term-prefix-requires : tie.Need-term-prefix-requires
-term-prefix-requires c κs = (search text-prefix-room, search needs, search needs)
+term-prefix-requires c κs = (search text-prefix-room, search needs)
 
 slice-aggregate-copied : tie.Need-slice-aggregate-copied
 slice-aggregate-copied c = search needs
@@ -17,7 +17,7 @@ copied-requires : tie.Need-copied-requires
 copied-requires c κs = search text-middle-room
 
 term-suffix-requires : tie.Need-term-suffix-requires
-term-suffix-requires c κs = (search text-suffix-room, search needs, search needs)
+term-suffix-requires c κs = (search text-suffix-room, search needs)
 
 same-length : tie.Need-same-length
 same-length c = search needs
@@ -26,7 +26,7 @@ returns : tie.Need-returns
 returns c = search text-kept-done
 
 term-base-requires : tie.Need-term-base-requires
-term-base-requires c κs = (search text-base-room, search needs, search needs, search no-keep)
+term-base-requires c κs = (search text-base-room, search no-keep, search needs)
 
 same-length-2 : tie.Need-same-length-2
 same-length-2 c = search needs

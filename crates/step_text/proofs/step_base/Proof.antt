@@ -15,13 +15,13 @@ term-keeps-requires : tie.Need-term-keeps-requires
 term-keeps-requires c κs = search needs
 
 term-prefix-requires : tie.Need-term-prefix-requires
-term-prefix-requires c κs = (search base-first, search term-small, search needs)
+term-prefix-requires c κs = (search base-first, search term-small)
 
 hop-base-requires : tie.Need-hop-base-requires
-hop-base-requires c κs = (search base-then, search hop-small, search hop-anew)
+hop-base-requires c κs = (search needs, search base-then, search hop-small, search hop-anew)
 
 term-suffix-requires : tie.Need-term-suffix-requires
-term-suffix-requires c κs = (search base-last, search term-small, search needs)
+term-suffix-requires c κs = (search base-last, search term-small)
 
 same-length : tie.Need-same-length
 same-length c = search needs
@@ -30,7 +30,7 @@ returns : tie.Need-returns
 returns c = search base-done
 
 term-base-requires : tie.Need-term-base-requires
-term-base-requires c κs = (search anew-room, search term-small, search needs, search no-keep)
+term-base-requires c κs = (search anew-room, search no-keep, search term-small)
 
 same-length-2 : tie.Need-same-length-2
 same-length-2 c = search needs

@@ -11,7 +11,7 @@ term-register-requires : tie.Need-term-register-requires
 term-register-requires c κs = search needs
 
 term-prefix-requires : tie.Need-term-prefix-requires
-term-prefix-requires c κs = (search prefix-first, search term-small, search needs)
+term-prefix-requires c κs = (search prefix-first, search term-small)
 
 hop-prefix-requires : tie.Need-hop-prefix-requires
 hop-prefix-requires c κs = (search prefix-then, search hop-small)

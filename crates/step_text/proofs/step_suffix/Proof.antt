@@ -14,7 +14,7 @@ hop-suffix-requires : tie.Need-hop-suffix-requires
 hop-suffix-requires c κs = search suffix-first
 
 term-suffix-requires : tie.Need-term-suffix-requires
-term-suffix-requires c κs = (search suffix-then, search term-small, search needs)
+term-suffix-requires c κs = (search suffix-then, search term-small)
 
 same-length : tie.Need-same-length
 same-length c = search needs

@@ -1,28 +1,40 @@
--- `all_registers` adds up all alternatives of seq2; what is left is said in `AllRegisters`.
+-- `all_registers` adds up the registers of one row after the other; what is left is said in `AllRegisters`.
 use borrow.Author.Needs.{needs}
 use Prim.Native.Nat.{_-_}
-use Rattle.within.proofs.Rows.{placed-outline, placed-count, seq2-placed, still-paired}
-use Rattle.within.proofs.RegisterPass.{AllRegisters, all-registers-begin, all-registers-on, all-registers-fit, all-registers-end}
+use Rattle.alternative.proofs.Keeping.{outline-is-there}
+use Rattle.within.proofs.Rows.{two-keepable, rows-pairs}
+use Rattle.within.proofs.RegisterPass.{AllRegisters, all-registers-begin, row-registers-fit, all-registers-fit, all-registers-on, all-registers-end}
 use Rattle.within.proofs.all_registers.Statement.{statement}
 use Rattle.within.proofs.all_registers.Tie as tie
 
 abbrev Inv-loop : tie.InvT-loop
-Inv-loop t outline windows n1 n2 work₀ count total₀ i₀ work total i = AllRegisters t n1 n2 count work₀ work total i
+Inv-loop t outline windows one two work₀ count total₀ i₀ work total i = AllRegisters t outline windows one two count work₀ work total i
 
 abbrev μ-loop : tie.MeasureT-loop
-μ-loop t outline windows n1 n2 work₀ count total₀ i₀ work total i = count - i
+μ-loop t outline windows one two work₀ count total₀ i₀ work total i = count - i
 
 count-of-requires : tie.Need-count-of-requires Inv-loop μ-loop
-count-of-requires c κs = search (placed-outline, seq2-placed)
+count-of-requires c κs = search (outline-is-there, two-keepable)
 
 loop-holds : tie.Need-loop-holds Inv-loop μ-loop
-loop-holds c = search (all-registers-begin, placed-count, seq2-placed)
+loop-holds c = search all-registers-begin
 
-row-registers-requires : tie.Need-row-registers-requires Inv-loop μ-loop
-row-registers-requires c κs = (search still-paired, search needs, search needs)
+row-of-requires : tie.Need-row-of-requires Inv-loop μ-loop
+row-of-requires c κs = (search needs, search needs)
+
+registers-requires : tie.Need-registers-requires Inv-loop μ-loop
+registers-requires c κs = search needs
+
+pairs-registers-requires : tie.Need-pairs-registers-requires Inv-loop μ-loop
+pairs-registers-requires c κs =
+    let kept = c .before .before .before .before .before in
+    rows-pairs (kept .row-of .ensures .0) (kept .before .before .before .loop .inv .rows .measured)
 
 add-total : tie.Need-add-total Inv-loop μ-loop
-add-total c = search all-registers-fit
+add-total c = search row-registers-fit
+
+add-total-2 : tie.Need-add-total-2 Inv-loop μ-loop
+add-total-2 c = search all-registers-fit
 
 add-i : tie.Need-add-i Inv-loop μ-loop
 add-i c = search needs
@@ -47,8 +59,11 @@ all-registers-spec =
     μ-loop
     count-of-requires
     loop-holds
-    row-registers-requires
+    row-of-requires
+    registers-requires
+    pairs-registers-requires
     add-total
+    add-total-2
     add-i
     loop-less
     loop-again

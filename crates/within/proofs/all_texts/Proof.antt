@@ -1,26 +1,46 @@
--- `all_texts` goes through the alternatives of seq2; what is left is said in `AllTexts`.
+-- `all_texts` writes the texts of one row after the other; what is left is said in `AllTexts`.
 use borrow.Author.Needs.{needs}
 use Prim.Native.Nat.{_-_}
-use Rattle.within.proofs.Rows.{placed-outline, placed-count, seq2-placed, still-paired}
-use Rattle.within.proofs.Numbering.{all-numbers-small}
-use Rattle.within.proofs.TextPass.{AllTexts, all-texts-begin, all-texts-room, all-texts-on, all-texts-end}
+use Rattle.alternative.proofs.Keeping.{outline-is-there}
+use Rattle.within.proofs.Rows.{two-keepable, rows-pairs}
+use Rattle.within.proofs.Numbering.{row-placed, row-pairs-small, row-ended}
+use Rattle.within.proofs.TextPass.{AllTexts, all-texts-begin, row-texts-room, all-texts-on, all-texts-end}
 use Rattle.within.proofs.all_texts.Statement.{statement}
 use Rattle.within.proofs.all_texts.Tie as tie
 
 abbrev Inv-loop : tie.InvT-loop
-Inv-loop t outline windows n1 n2 first work₀ out₀ at count p₀ r₀ i₀ work out p r i = AllTexts t n1 n2 first count work₀ work out₀ at out p r i
+Inv-loop t outline windows one two work₀ out₀ count start m₀ i₀ work out m i = AllTexts t outline windows one two m₀ start count work₀ work out₀ out m i
 
 abbrev μ-loop : tie.MeasureT-loop
-μ-loop t outline windows n1 n2 first work₀ out₀ at count p₀ r₀ i₀ work out p r i = count - i
+μ-loop t outline windows one two work₀ out₀ count start m₀ i₀ work out m i = count - i
 
 count-of-requires : tie.Need-count-of-requires Inv-loop μ-loop
-count-of-requires c κs = search (placed-outline, seq2-placed)
+count-of-requires c κs = search (outline-is-there, two-keepable)
 
 loop-holds : tie.Need-loop-holds Inv-loop μ-loop
-loop-holds c = search (all-texts-begin, placed-count, seq2-placed)
+loop-holds c = search all-texts-begin
 
-row-texts-requires : tie.Need-row-texts-requires Inv-loop μ-loop
-row-texts-requires c κs = (search still-paired, search needs, search needs, search needs, search all-numbers-small, search all-texts-room)
+row-of-requires : tie.Need-row-of-requires Inv-loop μ-loop
+row-of-requires c κs = (search needs, search needs)
+
+next-register-requires : tie.Need-next-register-requires Inv-loop μ-loop
+next-register-requires c κs = search row-placed
+
+pairs-texts-requires : tie.Need-pairs-texts-requires Inv-loop μ-loop
+pairs-texts-requires c κs =
+    let next = c .before .before in
+    let kept = next .before .before .before .before in
+    let loop = kept .before .before .before in
+    let more = kept .before .before .loop-test .taken in (
+      (
+        rows-pairs (kept .row-of .ensures .0) (loop .loop .inv .numbers .rows .measured),
+        row-pairs-small (loop .loop .inv .numbers) more (kept .row-of .ensures .0) (next .next-register .ensures),
+      ),
+      (
+        row-ended (loop .loop .inv .numbers) more (kept .row-of .ensures .0) (next .next-register .ensures),
+        (loop .loop .inv .begun, row-texts-room (loop .loop .inv) more (kept .row-of .ensures .0) (next .next-register .ensures)),
+      ),
+    )
 
 add-i : tie.Need-add-i Inv-loop μ-loop
 add-i c = search needs
@@ -29,7 +49,13 @@ loop-less : tie.Need-loop-less Inv-loop μ-loop
 loop-less c = search needs
 
 loop-again : tie.Need-loop-again Inv-loop μ-loop
-loop-again c = search all-texts-on
+loop-again c =
+    let pairs = c .before .before .before .before in
+    let next = pairs .before .before .before in
+    let kept = next .before .before .before .before in
+    let loop = kept .before .before .before in
+    all-texts-on (loop .loop .inv) (kept .before .before .loop-test .taken) (kept .row-of .ensures .0) (next .next-register .ensures) (pairs .pairs-texts .ensures)
+    (search needs) (search needs)
 
 same-length : tie.Need-same-length Inv-loop μ-loop
 same-length c = search needs
@@ -48,7 +74,9 @@ all-texts-spec =
     μ-loop
     count-of-requires
     loop-holds
-    row-texts-requires
+    row-of-requires
+    next-register-requires
+    pairs-texts-requires
     add-i
     loop-less
     loop-again

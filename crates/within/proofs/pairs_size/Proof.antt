@@ -1,34 +1,47 @@
--- `pairs_size` adds up the pairs of one alternative of seq2; what is left is said in `PairSizes`.
+-- `pairs_size` adds up the words of one pair after the other; what is left is said in `PairSizes`.
 use borrow.Author.Needs.{needs}
 use Prim.Native.Nat.{_-_}
-use Rattle.within.proofs.Rows.{placed-outline, placed-count, still-placed}
-use Rattle.within.proofs.SizePass.{PairSizes, pair-sizes-begin, pair-sizes-small, pair-sizes-text-fits, pair-sizes-stores-fit, pair-sizes-on, pair-sizes-end, pair-sizes-text, pair-sizes-stores}
+use Rattle.alternative.proofs.Keeping.{outline-is-there}
+use Rattle.within.proofs.Windows.{windows-there, windows-still, rowing-still, fits-here, falls}
+use Rattle.within.proofs.SizePass.{PairSizes, pair-sizes-begin, pair-countable, pair-delays-few, pair-text-short, pair-stores-few, pair-sizes-text-fit, pair-sizes-stores-fit, pair-sizes-on, pair-sizes-end, pair-sizes-low}
 use Rattle.within.proofs.pairs_size.Statement.{statement}
 use Rattle.within.proofs.pairs_size.Tie as tie
 
 abbrev Inv-loop : tie.InvT-loop
-Inv-loop t outline windows n1 l two place work₀ count total₀ j₀ work total j = PairSizes t n1 l two count work₀ work total j
+Inv-loop t outline windows row text work₀ count total₀ j₀ work total j = PairSizes t outline windows row text count work₀ work total j
 
 abbrev μ-loop : tie.MeasureT-loop
-μ-loop t outline windows n1 l two place work₀ count total₀ j₀ work total j = count - j
+μ-loop t outline windows row text work₀ count total₀ j₀ work total j = count - j
 
 count-of-requires : tie.Need-count-of-requires Inv-loop μ-loop
-count-of-requires c κs = search placed-outline
+count-of-requires c κs = search outline-is-there
+
+next-fitting-requires : tie.Need-next-fitting-requires Inv-loop μ-loop
+next-fitting-requires c κs = (search windows-there, search needs)
 
 loop-holds : tie.Need-loop-holds Inv-loop μ-loop
-loop-holds c = search (pair-sizes-begin, placed-count)
+loop-holds c = search pair-sizes-begin
 
-nth-pair-size-requires : tie.Need-nth-pair-size-requires Inv-loop μ-loop
-nth-pair-size-requires c κs = (search still-placed, search needs, search needs, search pair-sizes-small, search needs)
+beside-requires : tie.Need-beside-requires Inv-loop μ-loop
+beside-requires c κs = (search rowing-still, search needs, search fits-here)
+
+size-requires : tie.Need-size-requires Inv-loop μ-loop
+size-requires c κs = search pair-countable
+
+size-requires-2 : tie.Need-size-requires-2 Inv-loop μ-loop
+size-requires-2 c κs = (search pair-text-short, search pair-stores-few, search needs, search pair-delays-few)
 
 plus-requires : tie.Need-plus-requires Inv-loop μ-loop
-plus-requires c κs = (search pair-sizes-text-fits, search pair-sizes-stores-fit)
+plus-requires c κs = (search pair-sizes-text-fit, search pair-sizes-stores-fit)
 
-add-j : tie.Need-add-j Inv-loop μ-loop
-add-j c = search needs
+add-next-fitting : tie.Need-add-next-fitting Inv-loop μ-loop
+add-next-fitting c = search needs
+
+next-fitting-requires-2 : tie.Need-next-fitting-requires-2 Inv-loop μ-loop
+next-fitting-requires-2 c κs = (search windows-still, search needs)
 
 loop-less : tie.Need-loop-less Inv-loop μ-loop
-loop-less c = search needs
+loop-less c = search falls
 
 loop-again : tie.Need-loop-again Inv-loop μ-loop
 loop-again c = search pair-sizes-on
@@ -37,7 +50,7 @@ same-length : tie.Need-same-length Inv-loop μ-loop
 same-length c = search needs
 
 returns : tie.Need-returns Inv-loop μ-loop
-returns c = (search pair-sizes-end, (search pair-sizes-text, search pair-sizes-stores))
+returns c = (search pair-sizes-end, search pair-sizes-low)
 
 pub pairs-size-spec : {M : Type 1} → statement M
 pairs-size-spec =
@@ -46,10 +59,14 @@ pairs-size-spec =
     Inv-loop
     μ-loop
     count-of-requires
+    next-fitting-requires
     loop-holds
-    nth-pair-size-requires
+    beside-requires
+    size-requires
+    size-requires-2
     plus-requires
-    add-j
+    add-next-fitting
+    next-fitting-requires-2
     loop-less
     loop-again
     same-length

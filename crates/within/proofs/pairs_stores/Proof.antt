@@ -1,32 +1,42 @@
--- `pairs_stores` writes one pair after the other; what is left is said in `PairStores`.
+-- `pairs_stores` writes the assignments of one pair after the other; what is left is said in `PairStores`.
 use borrow.Author.Needs.{needs}
 use Prim.Native.Nat.{_-_}
-use Rattle.within.proofs.Rows.{placed-outline, placed-count, still-placed}
+use Rattle.alternative.proofs.Keeping.{outline-is-there}
+use Rattle.within.proofs.Windows.{windows-there, windows-still, rowing-still, fits-here, falls}
 use Rattle.within.proofs.Numbering.{pair-numbers-small}
 use Rattle.within.proofs.StorePass.{PairStores, pair-stores-begin, pair-stores-room, pair-stores-on, pair-stores-end}
 use Rattle.within.proofs.pairs_stores.Statement.{statement}
 use Rattle.within.proofs.pairs_stores.Tie as tie
 
 abbrev Inv-loop : tie.InvT-loop
-Inv-loop t outline windows n1 l n place work₀ out₀ at count p₀ r₀ j₀ work out p r j = PairStores t n1 l n count work₀ work out₀ at out p r j
+Inv-loop t outline windows row work₀ out₀ count m₀ j₀ work out m j = PairStores t outline windows row m₀ count work₀ work out₀ out m j
 
 abbrev μ-loop : tie.MeasureT-loop
-μ-loop t outline windows n1 l n place work₀ out₀ at count p₀ r₀ j₀ work out p r j = count - j
+μ-loop t outline windows row work₀ out₀ count m₀ j₀ work out m j = count - j
 
 count-of-requires : tie.Need-count-of-requires Inv-loop μ-loop
-count-of-requires c κs = search placed-outline
+count-of-requires c κs = search outline-is-there
+
+next-fitting-requires : tie.Need-next-fitting-requires Inv-loop μ-loop
+next-fitting-requires c κs = (search windows-there, search needs)
 
 loop-holds : tie.Need-loop-holds Inv-loop μ-loop
-loop-holds c = search (pair-stores-begin, placed-count)
+loop-holds c = search pair-stores-begin
 
-nth-pair-stores-requires : tie.Need-nth-pair-stores-requires Inv-loop μ-loop
-nth-pair-stores-requires c κs = (search still-placed, search needs, search needs, search needs, search pair-numbers-small, search pair-stores-room)
+beside-requires : tie.Need-beside-requires Inv-loop μ-loop
+beside-requires c κs = (search rowing-still, search needs, search fits-here)
 
-add-j : tie.Need-add-j Inv-loop μ-loop
-add-j c = search needs
+stores-requires : tie.Need-stores-requires Inv-loop μ-loop
+stores-requires c κs = (search pair-numbers-small, search pair-stores-room)
+
+add-next-fitting : tie.Need-add-next-fitting Inv-loop μ-loop
+add-next-fitting c = search needs
+
+next-fitting-requires-2 : tie.Need-next-fitting-requires-2 Inv-loop μ-loop
+next-fitting-requires-2 c κs = (search windows-still, search needs)
 
 loop-less : tie.Need-loop-less Inv-loop μ-loop
-loop-less c = search needs
+loop-less c = search falls
 
 loop-again : tie.Need-loop-again Inv-loop μ-loop
 loop-again c = search pair-stores-on
@@ -47,9 +57,12 @@ pairs-stores-spec =
     Inv-loop
     μ-loop
     count-of-requires
+    next-fitting-requires
     loop-holds
-    nth-pair-stores-requires
-    add-j
+    beside-requires
+    stores-requires
+    add-next-fitting
+    next-fitting-requires-2
     loop-less
     loop-again
     same-length

@@ -1,32 +1,45 @@
--- `pairs_texts` writes one pair's text after the other; what is left is said in `PairTexts`.
+-- `pairs_texts` writes the text of one pair after the other; what is left is said in `PairTexts`.
 use borrow.Author.Needs.{needs}
 use Prim.Native.Nat.{_-_}
-use Rattle.within.proofs.Rows.{placed-outline, placed-count, still-placed}
+use Rattle.alternative.proofs.Keeping.{outline-is-there}
+use Rattle.within.proofs.Windows.{windows-there, windows-still, rowing-still, fits-here, falls}
 use Rattle.within.proofs.Numbering.{pair-numbers-small}
-use Rattle.within.proofs.TextPass.{PairTexts, pair-texts-begin, texts-front-kept, texts-front-small, pair-texts-room, pair-texts-on, pair-texts-end}
+use Rattle.within.proofs.TextPass.{PairTexts, pair-texts-begin, pair-texts-behind, pair-texts-room, pair-texts-on, pair-texts-end}
 use Rattle.within.proofs.pairs_texts.Statement.{statement}
 use Rattle.within.proofs.pairs_texts.Tie as tie
 
 abbrev Inv-loop : tie.InvT-loop
-Inv-loop t outline windows n1 l m n end from work₀ out₀ at count p₀ r₀ j₀ work out p r j = PairTexts t n1 l m n end from count work₀ work out₀ at out p r j
+Inv-loop t outline windows row start from work₀ out₀ count m₀ j₀ work out m j = PairTexts t outline windows row start from count work₀ work out₀ out m j
 
 abbrev μ-loop : tie.MeasureT-loop
-μ-loop t outline windows n1 l m n end from work₀ out₀ at count p₀ r₀ j₀ work out p r j = count - j
+μ-loop t outline windows row start from work₀ out₀ count m₀ j₀ work out m j = count - j
 
 count-of-requires : tie.Need-count-of-requires Inv-loop μ-loop
-count-of-requires c κs = search placed-outline
+count-of-requires c κs = search outline-is-there
+
+next-fitting-requires : tie.Need-next-fitting-requires Inv-loop μ-loop
+next-fitting-requires c κs = (search windows-there, search needs)
 
 loop-holds : tie.Need-loop-holds Inv-loop μ-loop
-loop-holds c = search (pair-texts-begin, placed-count)
+loop-holds c = search pair-texts-begin
 
-nth-pair-text-requires : tie.Need-nth-pair-text-requires Inv-loop μ-loop
-nth-pair-text-requires c κs = (search still-placed, search needs, search needs, search needs, search needs, search texts-front-kept, search texts-front-small, search pair-numbers-small, search pair-texts-room)
+beside-requires : tie.Need-beside-requires Inv-loop μ-loop
+beside-requires c κs = (search rowing-still, search needs, search fits-here)
 
-add-j : tie.Need-add-j Inv-loop μ-loop
-add-j c = search needs
+sub-text : tie.Need-sub-text Inv-loop μ-loop
+sub-text c = search needs
+
+text-requires : tie.Need-text-requires Inv-loop μ-loop
+text-requires c κs = (search pair-texts-behind, search pair-numbers-small, search pair-texts-room)
+
+add-next-fitting : tie.Need-add-next-fitting Inv-loop μ-loop
+add-next-fitting c = search needs
+
+next-fitting-requires-2 : tie.Need-next-fitting-requires-2 Inv-loop μ-loop
+next-fitting-requires-2 c κs = (search windows-still, search needs)
 
 loop-less : tie.Need-loop-less Inv-loop μ-loop
-loop-less c = search needs
+loop-less c = search falls
 
 loop-again : tie.Need-loop-again Inv-loop μ-loop
 loop-again c = search pair-texts-on
@@ -47,9 +60,13 @@ pairs-texts-spec =
     Inv-loop
     μ-loop
     count-of-requires
+    next-fitting-requires
     loop-holds
-    nth-pair-text-requires
-    add-j
+    beside-requires
+    sub-text
+    text-requires
+    add-next-fitting
+    next-fitting-requires-2
     loop-less
     loop-again
     same-length

@@ -1,4 +1,4 @@
--- `plus` adds text to text and stores to stores.
+-- `plus` adds both parts.
 use borrow.Author.Needs.{needs}
 use Rattle.within.specs.AllSizes.{plus}
 use Rattle.within.proofs.plus.Statement.{statement}
@@ -12,7 +12,7 @@ add-t4 c = search needs
 
 returns : tie.Need-returns
 unfolding plus
-returns c = search needs
+returns c = cc
 
 pub plus-spec : {M : Type 1} → statement M
 plus-spec = tie.close (tie.spec add-t3 add-t4 returns)

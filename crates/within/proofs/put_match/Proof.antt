@@ -5,7 +5,7 @@ use Rattle.within.proofs.put_match.Statement.{statement}
 use Rattle.within.proofs.put_match.Tie as tie
 
 all-texts-requires : tie.Need-all-texts-requires
-all-texts-requires c κs = (search needs, search needs, search needs, search texts-room)
+all-texts-requires c κs = ((search needs, search needs), search texts-room)
 
 put-requires : tie.Need-put-requires
 put-requires c κs = search zero-room

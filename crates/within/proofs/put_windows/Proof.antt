@@ -1,34 +1,28 @@
--- `put_windows` writes one alternative of seq1 after the other and keeps its window; those kept are said in `Measuring`.
+-- `put_windows` keeps one alternative of seq1 after the other and measures it; the windows put are said in `Measuring`.
 use borrow.Author.Needs.{needs}
 use Prim.Native.Nat.{_-_}
-use Rattle.within.proofs.Rows.{placed-outline, placed-count}
-use Rattle.within.proofs.Windows.{Measuring, measuring-begins, measuring-number, measuring-room, measuring-place, measured-ends, measured-long, measured-stands, measuring-on, measuring-ends}
+use Rattle.alternative.proofs.Keeping.{outline-is-there, keepable-again}
+use Rattle.within.proofs.Windows.{Measuring, measuring-begins, measuring-place, measuring-on, measuring-ends}
 use Rattle.within.proofs.put_windows.Statement.{statement}
 use Rattle.within.proofs.put_windows.Tie as tie
 
 abbrev Inv-loop : tie.InvT-loop
-Inv-loop t outline n1 work₀ windows₀ count j₀ work windows j = Measuring t n1 count work₀ work windows₀ windows j
+Inv-loop t outline one work₀ windows₀ count j₀ work windows j = Measuring t one count work₀ work windows₀ windows j
 
 abbrev μ-loop : tie.MeasureT-loop
-μ-loop t outline n1 work₀ windows₀ count j₀ work windows j = count - j
+μ-loop t outline one work₀ windows₀ count j₀ work windows j = count - j
 
 count-of-requires : tie.Need-count-of-requires Inv-loop μ-loop
-count-of-requires c κs = search placed-outline
+count-of-requires c κs = search outline-is-there
 
 loop-holds : tie.Need-loop-holds Inv-loop μ-loop
-loop-holds c = search (measuring-begins, placed-count)
+loop-holds c = search measuring-begins
 
-alternative-requires : tie.Need-alternative-requires Inv-loop μ-loop
-alternative-requires c κs = (search measuring-number, search needs, search measuring-room)
-
-slice-reshare-prefix-window-len : tie.Need-slice-reshare-prefix-window-len Inv-loop μ-loop
-slice-reshare-prefix-window-len c = search measured-ends
-
-slice-aggregate-window-len : tie.Need-slice-aggregate-window-len Inv-loop μ-loop
-slice-aggregate-window-len c = search measured-long
+keep-requires : tie.Need-keep-requires Inv-loop μ-loop
+keep-requires c κs = (search keepable-again, search needs)
 
 window-len-requires : tie.Need-window-len-requires Inv-loop μ-loop
-window-len-requires c κs = search measured-stands
+window-len-requires c κs = search needs
 
 cast-windows : tie.Need-cast-windows Inv-loop μ-loop
 cast-windows c = search needs
@@ -65,9 +59,7 @@ put-windows-spec =
     μ-loop
     count-of-requires
     loop-holds
-    alternative-requires
-    slice-reshare-prefix-window-len
-    slice-aggregate-window-len
+    keep-requires
     window-len-requires
     cast-windows
     mul-windows

@@ -1,6 +1,6 @@
 -- `registers` measures the windows of seq1's alternatives, then adds up those of seq2.
 use borrow.Author.Needs.{needs}
-use Rattle.within.proofs.Rows.{seq1-alone, still-paired}
+use Rattle.within.proofs.Rows.{one-keepable, still-paired}
 use Rattle.within.proofs.registers.Statement.{statement}
 use Rattle.within.proofs.registers.Tie as tie
 
@@ -8,7 +8,7 @@ slice-aggregate-put-windows : tie.Need-slice-aggregate-put-windows
 slice-aggregate-put-windows c = search needs
 
 put-windows-requires : tie.Need-put-windows-requires
-put-windows-requires c κs = (search seq1-alone, search needs)
+put-windows-requires c κs = (search one-keepable, search needs)
 
 slice-aggregate-all-registers : tie.Need-slice-aggregate-all-registers
 slice-aggregate-all-registers c = search needs

@@ -1,6 +1,6 @@
 -- `word_count` adds the assignments, the match and the match's own word.
 use borrow.Author.Needs.{needs}
-use Rattle.within.proofs.Rows.{seq1-alone, still-paired}
+use Rattle.within.proofs.Rows.{one-keepable, still-numberable}
 use Rattle.within.proofs.SizePass.{words-counted}
 use Rattle.within.proofs.word_count.Statement.{statement}
 use Rattle.within.proofs.word_count.Tie as tie
@@ -9,13 +9,13 @@ slice-aggregate-put-windows : tie.Need-slice-aggregate-put-windows
 slice-aggregate-put-windows c = search needs
 
 put-windows-requires : tie.Need-put-windows-requires
-put-windows-requires c κs = (search seq1-alone, search needs)
+put-windows-requires c κs = (search one-keepable, search needs)
 
 slice-aggregate-all-size : tie.Need-slice-aggregate-all-size
 slice-aggregate-all-size c = search needs
 
 all-size-requires : tie.Need-all-size-requires
-all-size-requires c κs = (search still-paired, search needs, search needs)
+all-size-requires c κs = (search still-numberable, search needs)
 
 match-size-requires : tie.Need-match-size-requires
 match-size-requires c κs = search needs

@@ -1,6 +1,6 @@
 -- `write` puts the assignments, the match and the match's own word one after the other.
 use borrow.Author.Needs.{needs}
-use Rattle.within.proofs.Rows.{seq1-alone, still-paired, still-paired-later}
+use Rattle.within.proofs.Rows.{one-keepable, still-numberable}
 use Rattle.within.proofs.Whole.{stores-have-room, match-has-room, end-has-room, listing-written}
 use Rattle.within.proofs.write.Statement.{statement}
 use Rattle.within.proofs.write.Tie as tie
@@ -9,19 +9,23 @@ slice-aggregate-put-windows : tie.Need-slice-aggregate-put-windows
 slice-aggregate-put-windows c = search needs
 
 put-windows-requires : tie.Need-put-windows-requires
-put-windows-requires c κs = (search seq1-alone, search needs)
+put-windows-requires c κs = (search (one-keepable), search needs)
 
 slice-aggregate-put-stores : tie.Need-slice-aggregate-put-stores
 slice-aggregate-put-stores c = search needs
 
 put-stores-requires : tie.Need-put-stores-requires
-put-stores-requires c κs = (search still-paired, search needs, search needs, search stores-have-room)
+put-stores-requires c κs = ((search still-numberable, search needs), search stores-have-room)
 
 slice-aggregate-put-match : tie.Need-slice-aggregate-put-match
 slice-aggregate-put-match c = search needs
 
 put-match-requires : tie.Need-put-match-requires
-put-match-requires c κs = (search still-paired-later, search needs, search needs, search match-has-room)
+put-match-requires c κs =
+    let stored = c .before .before .before .before .before .before .before in
+    let measured = stored .before .before .before .before .before .before .before in
+    let known = measured .before .before .before .before .before .before .before in
+    ((still-numberable (known .pre .0) (search needs), search needs), match-has-room (known .pre .0) _ (known .pre .1) (stored .put-stores .ensures))
 
 put-requires : tie.Need-put-requires
 put-requires c κs = search end-has-room
@@ -33,7 +37,12 @@ same-length-2 : tie.Need-same-length-2
 same-length-2 c = search needs
 
 returns : tie.Need-returns
-returns c = search listing-written
+returns c =
+    let matched = c .before .before .before .before .before .before .before .before in
+    let stored = matched .before .before .before .before .before .before .before .before in
+    let measured = stored .before .before .before .before .before .before .before in
+    let known = measured .before .before .before .before .before .before .before in
+    listing-written (known .pre .0) (stored .put-stores .ensures) (matched .put-match .ensures) (c .before .before .put .ensures)
 
 pub write-spec : {M : Type 1} → statement M
 write-spec =

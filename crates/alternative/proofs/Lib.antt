@@ -1,0 +1,3 @@
+pub mod Keeping
+pub mod LastStep
+pub mod Laws

@@ -4,6 +4,8 @@
 //
 // Example: the second alternative of `a[*1:2]` is kept as the ten words of a and a after 1. It has one register, stores `a0 any seq0`, and its
 // text is `r0 a0 any and`.
+#![tactic(auto)]
+
 ghost use Rattle.std.specs.Prelude.{◌≡◌, ◌+◌, ◌≤◌, ◌<◌, length};
 ghost use Rattle.words.specs.Written.{Wrote};
 ghost use Rattle.term.specs.Keeping.{Whole};

@@ -1,6 +1,8 @@
 // A guide camera whose bad pixels are replaced, watched by lowered assertions: the frame is read with the map as made, with
 // rows and columns transposed, and with one entry lost, and each assertion says where it raised its first alarm. As with the
 // listing program, a library has the whole of it, with the status with which it ends.
+#![tactic(auto)]
+
 ghost use Rattle.correction.specs.Map.{Reached};
 
 use sensor::Loaded;

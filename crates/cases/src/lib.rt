@@ -1,6 +1,8 @@
 // Cases read from text: where a line or a part of it ends, the decimal numbers of a line, and a size that a case asks for.
 //
 // Example: of the line "12 x7 5" the numbers are 12, 7 and 5; a byte that is no digit is skipped.
+#![tactic(auto)]
+
 ghost use Rattle.std.specs.Prelude.{◌≡◌, ◌-◌, ◌≤◌, min, length, take};
 ghost use Rattle.words.specs.Written.{Wrote};
 ghost use Rattle.cases.specs.Lines.{next_place, with_digit, number_of, numbers_of_word, numbers_of};

@@ -3,6 +3,8 @@
 //
 // Example: `a[*1:2]` has two alternatives. The passes find no misplaced Empty, count 1 register and 12 words, write
 // `a0 any seq0`, then `a0 any`, then `r0 a0 any and any or`, and end the match.
+#![tactic(auto)]
+
 ghost use Rattle.std.specs.Prelude.{◌≡◌, ◌+◌, ◌≤◌, length};
 ghost use Rattle.words.specs.Written.{Wrote};
 ghost use Rattle.term.specs.Keeping.{Whole};
@@ -15,14 +17,14 @@ ghost use Rattle.choice.specs.ChoiceWords.{all_stores, closing, match_words, cho
 use meaning::word;
 
 // What the first pass finds: the lowest alternative that 12 refuses, or the registers of all of them.
-#[derive(Drop)]
+#[derive(Clone, Copy)]
 pub enum Survey {
     Misplaced(u32),
     Registers(u64),
 }
 
 // Whether an alternative is a lone unguarded Bool, and which.
-#[derive(Drop)]
+#[derive(Clone, Copy)]
 pub enum Lone {
     Atom(u32),
     Other,

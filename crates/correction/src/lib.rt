@@ -6,6 +6,8 @@
 //
 // Example: with the one entry 65538 the pixel of row 1, column 2 comes in at tick 754 and leaves at tick 756 as the mean of
 // row 1, column 1 and row 0, column 2.
+#![tactic(auto)]
+
 ghost use Rattle.std.specs.Prelude.{◌≡◌, ◌+◌, ◌-◌, ◌*◌, ◌/◌, ◌<◌, length};
 ghost use Rattle.correction.specs.Map.{entry_of, tick_of, ordered, Reached, LookedUp};
 ghost use Rattle.correction.specs.Rows.{row_of, column_of, place_of, pixel_at, replacement_by, Left, Stepped};
@@ -20,7 +22,7 @@ pub const DELAY: u32 = 2;
 const TWO_ROWS: u32 = 1504;
 
 // What a tick lets out: nothing yet, a pixel as it came in, or its replacement.
-#[derive(Drop)]
+#[derive(Clone, Copy)]
 pub enum Leaving {
     Nothing,
     Kept(u8),
@@ -28,14 +30,14 @@ pub enum Leaving {
 }
 
 // What a tick gives, and how many entries of the map were reached after it.
-#[derive(Drop)]
+#[derive(Clone, Copy)]
 pub struct Output {
     pub leaving: Leaving,
     pub reached: usize,
 }
 
 // Whether the map names a pixel, and how many entries were reached after it.
-#[derive(Drop)]
+#[derive(Clone, Copy)]
 pub struct Found {
     pub named: bool,
     pub reached: usize,

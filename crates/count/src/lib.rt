@@ -2,6 +2,8 @@
 // place (SPECIFICATION, "Refusals"). What it counts at a node it notes in the outline, which is read when alternatives are written.
 //
 // Example: `a ##[0:255] b` counts 256 alternatives and 512 entries; of `a ##[0:256] b` the walk answers Refused(10, 2).
+#![tactic(auto)]
+
 ghost use Rattle.std.specs.Prelude.{◌≡◌, true, ◌+◌, ◌*◌, ◌≤◌, ◌<◌, length};
 ghost use Rattle.words.specs.Choice.{pick};
 ghost use Rattle.meaning.specs.Tree.{node_at, tree_at, nodes, root};

@@ -2,6 +2,8 @@
 // What each step adds is written by `step_text`; here is the walk over the steps.
 //
 // Example: the steps Bool(0), Bool(1) after AtLeast(0) give the words r0 a0 any or a1 any and.
+#![tactic(auto)]
+
 ghost use Rattle.std.specs.Prelude.{◌≡◌, ◌+◌, ◌-◌, ◌≤◌, ◌<◌, length};
 ghost use Rattle.std.proofs.Math.Bool.{«false»};
 ghost use Rattle.words.specs.Written.{Wrote};

@@ -6,3 +6,5 @@
 // each slice that is lent to be written (proofs/OneOutcome.antt, and a file for each group of crates beside it).
 //
 // Example: for `a ##1 b` and atoms 1,0 then 0,1 then 0,0 the answers are 0, 1, 0, whatever the buffers hold past the registers.
+#![tactic(auto)]
+

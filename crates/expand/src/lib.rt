@@ -3,13 +3,15 @@
 // alternatives each operand has is read from the outline, which the walk made.
 //
 // Example: alternative 3 of `a[*1:2] ##[3:4] b` is Bool(a), Bool(a) after Fixed(1), Bool(b) after Fixed(4).
+#![tactic(auto)]
+
 ghost use Rattle.std.specs.Prelude.{◌≡◌, ◌+◌, ◌-◌, ◌/◌, ◌≤◌, ◌<◌, length};
 ghost use Rattle.words.specs.Written.{Wrote};
 ghost use Rattle.outline.specs.Outline.{count_in};
 ghost use Rattle.expand.specs.ByNumber.{alternatives_of, copies_of, alternative_words, hop_at, parts_of, delay_parts, copies_count, block_of, empties, copies_block, is_copies, single_term, copy_number, DelayCounted, CopiesCounted, OperandInside, OutlinedNumber, OutlinedCopies};
 
 // What an alternative of a delay is made of: its hop, and the numbers of the left's and the right's alternative.
-#[derive(Drop)]
+#[derive(Clone, Copy)]
 pub struct Parts {
     pub hop: meaning::SeqHop,
     pub left: u32,
@@ -17,7 +19,7 @@ pub struct Parts {
 }
 
 // Where an alternative of a repetition stands: how many copies follow the first, and its number among those of as many.
-#[derive(Drop)]
+#[derive(Clone, Copy)]
 pub struct Block {
     pub later: u32,
     pub index: u32,

@@ -1,6 +1,8 @@
 // A frame that is read, corrected and watched, tick by tick, by assertions that are lowered and ticked.
 //
 // Example: with an entry of the map lost, `watched` answers an alarm of assertion 1 two ticks after that pixel came in.
+#![tactic(auto)]
+
 mod assertions;
 mod atoms;
 
@@ -16,7 +18,7 @@ pub const TICKS: u32 = sensor::FRAME + correction::DELAY;
 pub const ASSERTIONS: u32 = 4;
 
 // What an assertion said of a frame: nothing, its first alarm's tick, or that a tick refused.
-#[derive(Drop)]
+#[derive(Clone, Copy)]
 pub enum Verdict {
     Quiet,
     Alarm(u32),

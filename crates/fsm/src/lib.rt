@@ -2,6 +2,8 @@
 // The k-th step's first register is r, the first of its term q.
 //
 // Example: `b[->2]` stores r0 1 or a1 any not and, then a1 any r0 1 or and a1 any not r1 and or.
+#![tactic(auto)]
+
 ghost use Rattle.std.specs.Prelude.{[], ◌∷◌, ◌+◌, ◌-◌, ◌≤◌, ◌<◌, length};
 ghost use Rattle.words.specs.Written.{Wrote};
 ghost use Rattle.step_text.specs.Text.{register_word, at_least_one, TermFits};
@@ -12,7 +14,7 @@ ghost use Rattle.fsm.specs.Stores.{goto_first, goto_end, goto_second, goto_stage
 use meaning::word;
 
 // What counts matches: the atom that it counts, how often, and its first register.
-#[derive(Drop)]
+#[derive(Clone, Copy)]
 struct Machine {
     atom: u32,
     count: u32,

@@ -2,6 +2,8 @@
 // then the right one's, then `and` if there are both. At the top it is closed by the `and` with the expression that it guards.
 //
 // Example: the guard of `(c throughout (d throughout a))[*2]` is a3 any a2 any and a3 any a2 any and and, closed by one more and.
+#![tactic(auto)]
+
 ghost use Rattle.std.specs.Prelude.{[], ◌∷◌, ◌+◌, ◌≤◌, ◌<◌, length};
 ghost use Rattle.words.specs.Written.{Wrote};
 ghost use Rattle.meaning.specs.Listing.{word};

@@ -1,6 +1,8 @@
 // The runs of a delay and of a within, from the tables of their operands: the ends that are reached from one start.
 //
 // Example: from start 0, with a at tick 0 and b at tick 2, `a ##2 b` reaches the end 3: the right operand may begin at tick 2.
+#![tactic(auto)]
+
 ghost use Rattle.std.specs.Prelude.{◌≡◌, ◌+◌, ◌-◌, ◌*◌, ◌≤◌, ◌<◌, min, length, get_or};
 ghost use Rattle.runs.specs.Ends.{Gains, Stands};
 ghost use Rattle.joined_runs.specs.Joined.{Ahead, Later, Overlapped, Delayed, Within, Lowest, EndsFrom};

@@ -5,12 +5,14 @@
 //
 // Example: a0 any seq0 r0 a1 any and match is `Described`, and its deepest stack is 2. Without its last word it is
 // `Faulty` at place 7, the word count.
+#![tactic(auto)]
+
 ghost use Rattle.std.specs.Prelude.{◌≡◌, ◌+◌, ◌-◌, ◌^◌, ◌≤◌, ◌<◌, max};
 ghost use Rattle.words.specs.Choice.{pick};
-ghost use Rattle.meaning.specs.Listing.{operation, word, «row_of», height as «height-of», «is_store», registers as «registers-of», deepest as «deepest-of»};
+ghost use Rattle.meaning.specs.Listing.{operation, word, row_of, height as height_of, is_store, registers as registers_of, deepest as deepest_of};
 ghost use Rattle.meaning.specs.Check.{check};
 ghost use Rattle.listing.specs.Operands.{OperandFound, OperandsFound};
-ghost use Rattle.listing.specs.Step.{Small, reach as «reach_of», tallied as «tallied-of», noted, ended as «Ended-of»};
+ghost use Rattle.listing.specs.Step.{Small, reach as reach_of, tallied as tallied_of, noted, ended as ended_of};
 
 use meaning::{operation, word};
 
@@ -45,7 +47,7 @@ const ROWS: [meaning::Row; 14] = [
 
 // What is counted of the words so far: the stores, the stack's height and its deepest, one more than the highest atom and than the
 // highest register named (0 where none is).
-#[derive(Drop)]
+#[derive(Clone, Copy)]
 pub struct Tally {
     pub stores: usize,
     pub height: usize,
@@ -64,7 +66,7 @@ pub const NOTHING: Tally = Tally {
 };
 
 // A word behind others: the tally with it, or a word that no described listing has there.
-#[derive(Drop)]
+#[derive(Clone, Copy)]
 pub enum Noted {
     Fits(Tally),
     Unfit,
@@ -129,7 +131,7 @@ pub fn moved(height: usize, row: meaning::Row) -> usize
 // takes half as long again, at every word of a listing.
 fn height_with(height: usize, w: u32) -> usize
     requires { (OperandFound height w) × (height < 2 ^ 63) }
-    ensures { result ≡ height-of height w }
+    ensures { result ≡ height_of height w }
 {
     if w < word::ANY {
         return moved(height, row(operation::ATOM));
@@ -168,7 +170,7 @@ fn larger(a: usize, b: usize) -> usize
 // The tally with all that the word adds to it.
 fn tallied(s: Tally, w: u32) -> Tally
     requires { (OperandFound s.height w) × Small s }
-    ensures { result ≡ tallied-of s w }
+    ensures { result ≡ tallied_of s w }
 {
     let height = height_with(s.height, w);
     Tally {
@@ -254,7 +256,7 @@ pub fn note(count: usize, s: Tally, w: u32) -> Noted
 
 // Whether the word may be the last: the match with no argument, and one value on the stack.
 pub fn ended(s: Tally, w: u32) -> bool
-    ensures { result ≡ Ended-of s w }
+    ensures { result ≡ ended_of s w }
 {
     if w != word::MATCH {
         return false;
@@ -264,7 +266,7 @@ pub fn ended(s: Tally, w: u32) -> bool
 
 // The registers of a slice: its stores, wherever they stand.
 fn registers(listing: &[u32]) -> usize
-    ensures { result ≡ registers-of listing.now }
+    ensures { result ≡ registers_of listing.now }
 {
     let mut stores = 0;
     let mut at = 0;
@@ -304,7 +306,7 @@ pub fn checked(listing: &[u32]) -> meaning::Checked
 // The deepest stack that any expression reaches.
 pub fn deepest(listing: &[u32]) -> usize
     requires { OperandsFound 0 listing.now }
-    ensures { result ≡ deepest-of listing.now }
+    ensures { result ≡ deepest_of listing.now }
 {
     let mut deepest: usize = 0;
     let mut height: usize = 0;

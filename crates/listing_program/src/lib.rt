@@ -3,8 +3,10 @@
 // `programs/main.c` hands its number to the system, and `sva_list`, which the gate runs, drops it.
 //
 // Example: of the 60 bytes of `a ##1 b` it prints "ok 1 8 2", "seq 0 = a0 any" and "match = r0 a1 any and", a line each; its status is 0.
+#![tactic(auto)]
+
 ghost use Rattle.std.specs.Prelude.{◌≡◌};
-ghost use Rattle.listing_program.specs.Status.{«status-of»};
+ghost use Rattle.listing_program.specs.Status.{status_of};
 
 // The status of an answer: 0 of a listing, 1 of a refusal.
 pub fn status_of(answer: meaning::Lowered) -> u32

@@ -3,6 +3,8 @@
 // refusal shows 7s and 9s, and a tick shows the registers' new values with 7s past them, and a stack of zeros.
 //
 // Example: `r0 match seq0: faulty 2, refused 21 2, next 777, stack 99`.
+#![tactic(auto)]
+
 use meaning::word;
 
 // The listing's tokens as words.

@@ -1,6 +1,8 @@
 // Words read from bytes, four bytes a word, the lowest first.
 //
 // Example: the bytes 1, 0, 0, 0, 0, 2, 0, 0 are the words 1 and 512.
+#![tactic(auto)]
+
 ghost use Rattle.std.specs.Prelude.{◌≡◌, ◌+◌, ◌*◌, ◌≤◌, length, get_or};
 ghost use Rattle.words.specs.Written.{Wrote};
 ghost use Rattle.little_endian.specs.Bytes.{word_of_bytes, words_of_bytes};

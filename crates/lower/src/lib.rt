@@ -3,6 +3,8 @@
 // more, and work is cleared once, after its last use.
 //
 // Example: the words of `a ##1 b` with 32 words of work and 8 of output give Listing(1, 8, 2); with 7 of output, Refused(14, 0).
+#![tactic(auto)]
+
 ghost use Rattle.std.specs.Prelude.{◌≡◌, ◌+◌, ◌≤◌, ltb, length, take};
 ghost use Rattle.words.specs.Written.{Wrote};
 ghost use Rattle.meaning.specs.Tree.{nodes};

@@ -2,14 +2,16 @@
 //
 // Example: of `a ##1 b` the page holds "ok 1 8 2", "seq 0 = a0 any" and "match = r0 a1 any and", a line each; of three bytes
 // it holds "refused 1 0".
+#![tactic(auto)]
+
 ghost use Rattle.std.specs.Prelude.{◌≤◌, length};
 ghost use Rattle.meaning.specs.Lower.{lower};
 ghost use Rattle.meaning.specs.declared.Lowered.TheVariants.{Refused};
-ghost use Rattle.text.specs.Text.{«first-line-text»};
-ghost use Rattle.lowered_text.specs.Page.{«page-text», «input-answer», «input-text», Shows};
+ghost use Rattle.text.specs.Text.{first_line_text};
+ghost use Rattle.lowered_text.specs.Page.{page_text, input_answer, input_text, Shows};
 
 // An answer whose text stands in front of a page, and how many bytes the text has.
-#[derive(Drop)]
+#[derive(Clone, Copy)]
 pub struct Shown {
     pub answer: meaning::Lowered,
     pub end: usize,

@@ -4,6 +4,8 @@
 // So all seven kinds may stand anywhere, and the cost grows with the nodes and with the ticks alone.
 //
 // Example: `a ##1 b` over the rows 1 0, 0 1 of width 2 is answered Ticks(2) with the bytes 0 1.
+#![tactic(auto)]
+
 ghost use Rattle.std.specs.Prelude.{◌≡◌, ◌+◌, ◌*◌, ◌≤◌, ◌<◌, length};
 ghost use Rattle.words.specs.Choice.{Tells};
 ghost use Rattle.words.specs.Written.{written};

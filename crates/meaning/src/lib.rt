@@ -3,13 +3,15 @@
 //
 // Example: `a ##1 b` is the table 1,0,0,0,0, 1,1,0,0,0, 2,0,1,1,1, three nodes, read as `Node`s. It has one alternative of
 // two steps, Bool(0) and Bool(1), the second reached by Fixed(1).
+#![tactic(auto)]
+
 
 pub mod kind;
 pub mod operation;
 pub mod word;
 
 // Five words of a tree table.
-#[derive(Drop)]
+#[derive(Clone, Copy)]
 pub struct Node {
     pub kind: u32,
     pub p: u32,
@@ -19,7 +21,7 @@ pub struct Node {
 }
 
 // What p or q of a node is, by the node's kind.
-#[derive(Drop)]
+#[derive(Clone, Copy)]
 pub enum Part {
     Unused,
     Operand,
@@ -27,7 +29,7 @@ pub enum Part {
 }
 
 // What min and max of a node are together, by the node's kind.
-#[derive(Drop)]
+#[derive(Clone, Copy)]
 pub enum Span {
     Unused,
     Range,
@@ -35,7 +37,7 @@ pub enum Span {
 }
 
 // A row of the specification's table of kinds.
-#[derive(Drop)]
+#[derive(Clone, Copy)]
 pub struct Columns {
     pub p: Part,
     pub q: Part,
@@ -43,7 +45,7 @@ pub struct Columns {
 }
 
 // A term of an alternative: the atom, and the count of a repetition.
-#[derive(Drop)]
+#[derive(Clone, Copy)]
 pub enum SeqTerm {
     Bool(u32),
     Goto(u32, u32),
@@ -53,14 +55,14 @@ pub enum SeqTerm {
 }
 
 // The ticks from the term before.
-#[derive(Drop)]
+#[derive(Clone, Copy)]
 pub enum SeqHop {
     Fixed(u32),
     AtLeast(u32),
 }
 
 // A term and the hop that reaches it: the source's pair.
-#[derive(Drop)]
+#[derive(Clone, Copy)]
 pub struct SeqStep {
     pub term: SeqTerm,
     pub hop: SeqHop,
@@ -68,7 +70,7 @@ pub struct SeqStep {
 
 // What the walk counts of a node: its alternatives, their terms and guard atoms together, whether each is made of
 // Bool terms and fixed hops alone, and whether one has a guard.
-#[derive(Drop)]
+#[derive(Clone, Copy)]
 pub struct Counts {
     pub alternatives: u32,
     pub entries: u32,
@@ -77,42 +79,42 @@ pub struct Counts {
 }
 
 // The table's checks: refusals 1 to 3, number and place.
-#[derive(Drop)]
+#[derive(Clone, Copy)]
 pub enum Table {
     Formed,
     Refused(u32, u32),
 }
 
 // The walk's answer at a node: refusals 4 to 11, number and place.
-#[derive(Drop)]
+#[derive(Clone, Copy)]
 pub enum Walked {
     Counted(Counts),
     Refused(u32, u32),
 }
 
 // The answer of lowering: registers, words and deepest stack, or a refusal's number and place.
-#[derive(Drop)]
+#[derive(Clone, Copy)]
 pub enum Lowered {
     Listing(usize, usize, usize),
     Refused(u32, u32),
 }
 
 // What an operation takes from the stack and leaves on it.
-#[derive(Drop)]
+#[derive(Clone, Copy)]
 pub struct Row {
     pub takes: u32,
     pub leaves: u32,
 }
 
 // The check of a listing: refusal 21 has the first faulty word.
-#[derive(Drop)]
+#[derive(Clone, Copy)]
 pub enum Checked {
     Described,
     Faulty(usize),
 }
 
 // The answer of a tick: the match bit, or a refusal's number and place.
-#[derive(Drop)]
+#[derive(Clone, Copy)]
 pub enum Ticked {
     Match(u8),
     Refused(u32, usize),

@@ -1,6 +1,8 @@
 // The outline of a tree: one word a node, put by the walk and read by whatever writes alternatives.
 //
 // Example: the word of `a throughout b`, node 1, is 1 + 512 * (1 + 4096 * 1): one alternative, nothing left out, a guard.
+#![tactic(auto)]
+
 ghost use Rattle.std.specs.Prelude.{◌≡◌, ◌+◌, ◌<◌, ◌≤◌, length};
 ghost use Rattle.words.specs.Choice.{pick};
 ghost use Rattle.meaning.specs.Tree.{finite};

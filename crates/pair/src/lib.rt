@@ -3,6 +3,8 @@
 //
 // Example: in `a within (b ##1 c)` the window of a is 1 and that of b ##1 c is 2, so that the pair takes one further delay: it
 // stores `a0 any seq1`, and its text is `r0 a2 any and a0 any r1 or and`.
+#![tactic(auto)]
+
 ghost use Rattle.std.specs.Prelude.{◌≡◌, ◌∷◌, ◌+◌, ◌*◌, ◌≤◌, length};
 ghost use Rattle.words.specs.Written.{Wrote};
 ghost use Rattle.meaning.specs.Root.{window_len, hop_length};
@@ -16,7 +18,7 @@ ghost use Rattle.pair.specs.Sizes.{pair_size_of, longest_text, longest_pair_text
 use meaning::word;
 
 // An alternative of seq1 and one of seq2, and by how many further delays the first may end before the second.
-#[derive(Drop)]
+#[derive(Clone, Copy)]
 pub struct Pair {
     pub one: term::Kept,
     pub two: term::Kept,
@@ -24,7 +26,7 @@ pub struct Pair {
 }
 
 // Where the next pair goes on: its place in the output, and its first register.
-#[derive(Drop)]
+#[derive(Clone, Copy)]
 pub struct Mark {
     pub place: usize,
     pub register: u32,

@@ -2,6 +2,8 @@
 // Every text that a store needs is written anew from the steps, so no expression is kept.
 //
 // Example: the steps Bool(0), Bool(1) after Fixed(2) give a0 any seq0 r0 seq1.
+#![tactic(auto)]
+
 ghost use Rattle.std.specs.Prelude.{◌≡◌, [], ◌∷◌, ◌++◌, ◌+◌, ◌-◌, ◌≤◌, ◌<◌, length};
 ghost use Rattle.std.proofs.Math.Bool.{«false»};
 ghost use Rattle.words.specs.Written.{Wrote};

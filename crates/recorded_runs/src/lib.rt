@@ -2,6 +2,8 @@
 // Rows are ticks times width bytes, row by row; the ends that are reached from one start are added to a row.
 //
 // Example: from start 0, with b at the ticks 1 and 3 of six, `b[->2]` reaches the end 4, and `b[=2]` the ends 4, 5 and 6.
+#![tactic(auto)]
+
 ghost use Rattle.std.specs.Prelude.{◌≡◌, ◌||◌, ◌+◌, ◌*◌, ◌≤◌, ◌<◌, length};
 ghost use Rattle.meaning.specs.Match.{Occurs};
 ghost use Rattle.runs.specs.Ends.{Gains, Stands};

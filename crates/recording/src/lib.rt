@@ -2,6 +2,8 @@
 // order. Nothing is written.
 //
 // Example: the words of `a ##1 b` with rows of width 1 are answered Refused(17, 0): atom 1 stands in no row.
+#![tactic(auto)]
+
 ghost use Rattle.std.specs.Prelude.{◌≡◌, ◌+◌, ◌*◌, ◌≤◌, ◌<◌, length};
 ghost use Rattle.meaning.specs.Tree.{nodes};
 ghost use Rattle.meaning.specs.Tick.{all_bits};
@@ -11,7 +13,7 @@ ghost use Rattle.meaning.specs.declared.Table.TheVariants.{Formed};
 ghost use Rattle.recording.specs.Refusals.{over_an_atom, judged_tree, in_the_row, all_in_the_row, good_rows, room_enough, table_answer, judged};
 
 // The answer: how many ticks were judged, or a refusal's number and place.
-#[derive(Drop)]
+#[derive(Clone, Copy)]
 pub enum Matched {
     Ticks(usize),
     Refused(u32, u32),

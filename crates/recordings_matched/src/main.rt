@@ -8,6 +8,8 @@
 // of runs. What is lent is filled before, and a line more says what is not as promised afterwards.
 //
 // Example: `a ##1 b` and below it `2 2 27  1 0 0 0 0  1 1 0 0 0  2 0 1 1 1 | 10 01` print the name, `ok 2` and `01`, a line each.
+#![tactic(auto)]
+
 ghost use Rattle.std.specs.Prelude.{◌≤◌, length};
 
 // What lent bytes are filled with: neither 0 nor 1.

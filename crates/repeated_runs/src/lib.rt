@@ -5,6 +5,8 @@
 // pass. A count of four thousand million costs no more than one of as many copies as there are ticks.
 //
 // Example: from start 0, with a at the ticks 0 and 1, `a[*1:$]` reaches 1 by one copy, and from there 2.
+#![tactic(auto)]
+
 ghost use Rattle.std.specs.Prelude.{◌≡◌, ◌+◌, ◌*◌, ◌≤◌, ◌<◌, min, length, replicate};
 ghost use Rattle.words.specs.Choice.{Tells};
 ghost use Rattle.runs.specs.Ends.{Gains, In, Kept, Stands, Reached};

@@ -4,6 +4,8 @@
 // start are carried as one row, so that no second table is needed. `to.len()` is the side of the table.
 //
 // Example: from the ends {1} the table of an atom that holds at tick 1 reaches {2}.
+#![tactic(auto)]
+
 ghost use Rattle.std.specs.Prelude.{◌+◌, ◌*◌, ◌≤◌, ◌≡◌, length, get_or};
 ghost use Rattle.runs.specs.Ends.{Marked, Gains, Stands, Reached};
 

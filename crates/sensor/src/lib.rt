@@ -2,6 +2,8 @@
 // defective are functions of the row and the column alone, so that the assertions can ask the sensor itself, and no map.
 //
 // Example: row 240, column 100 is ordinary and reads 20 + 60 + 12; a defective pixel reads 255.
+#![tactic(auto)]
+
 ghost use Rattle.std.specs.Prelude.{◌≡◌, ◌<◌, ◌≤◌, length};
 ghost use Rattle.words.specs.Written.{Wrote};
 ghost use Rattle.sensor.specs.Sensor.{sky_at, single_at, cluster_at, defective_at, reads_at, is_hot, expected_at};
@@ -24,7 +26,7 @@ const LOST_ROW: u32 = 62;
 const LOST_COLUMN: u32 = 121;
 
 // How a map came to be loaded.
-#[derive(Drop)]
+#[derive(Clone, Copy)]
 pub enum Loaded {
     AsMade,
     Transposed,

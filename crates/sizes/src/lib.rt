@@ -1,13 +1,15 @@
 // The words of one alternative's expression and stores, counted in 64 bits and never written out.
 //
 // Example: the steps Bool(0), Bool(1) after Fixed(2) take 4 words of expression and 5 words of stores.
+#![tactic(auto)]
+
 ghost use Rattle.std.specs.Prelude.{◌≡◌, ◌+◌, ◌-◌, ◌≤◌};
 ghost use Rattle.words.specs.Choice.{«pick»};
 ghost use Rattle.step_text.specs.Text.{hop_registers, step_registers};
 ghost use Rattle.sizes.specs.Sizes.{hop_text_size, term_text_size, lead_text_size, delays_size, hop_stores_size, goto_size, run_size, term_stores_size, step_size, first_size, size_up_to_step, most_guard_words, most_text_words, most_activation_words, most_store_words, Countable};
 
 // The words of the expression, and of the stores before it.
-#[derive(Drop)]
+#[derive(Clone, Copy)]
 pub struct Size {
     pub text: u64,
     pub stores: u64,

@@ -2,6 +2,8 @@
 // a prefix and a suffix, or begins anew; and how many registers both take.
 //
 // Example: after `a`, the step `##2 b` begins anew with r1, and adds a1 any and; it takes two registers.
+#![tactic(auto)]
+
 ghost use Rattle.std.specs.Prelude.{◌≡◌, [], ◌∷◌, ◌++◌, ◌+◌, ◌-◌, ◌≤◌, ◌<◌, length};
 ghost use Rattle.std.proofs.Math.Bool.{«false»};
 ghost use Rattle.words.specs.Written.{Wrote};

@@ -7,10 +7,12 @@
 // the proof of a function over a struct that holds a reference goes by hand through its MIR. `driving` walks with
 // the reader from assignment to assignment, and `stretch`, which others call, has plain parameters. `start` is for a caller
 // who cannot be handed a part, and takes its place.
+#![tactic(auto)]
+
 ghost use Rattle.std.specs.Prelude.{◌≡◌, [], ◌+◌, length};
-ghost use Rattle.meaning.specs.Check.{stretch as «stretch-of», «stretch-from»};
-ghost use Rattle.stretch.specs.Assignment.{«assignment-at», «another-at»};
-ghost use Rattle.stretch.specs.Start.{«start-from», «stretch-start»};
+ghost use Rattle.meaning.specs.Check.{stretch as stretch_of, stretch_from};
+ghost use Rattle.stretch.specs.Assignment.{assignment_at, another_at};
+ghost use Rattle.stretch.specs.Start.{start_from, stretch_start};
 
 // Whether a word stands at the place, and the assignment that begins there does not drive the register.
 fn another_at(listing: &[u32], place: usize, register: u32) -> bool
@@ -54,7 +56,7 @@ fn assignment_at(listing: &[u32], place: usize) -> &[u32]
 }
 
 // A listing and a position in it.
-#[derive(Drop)]
+#[derive(Clone, Copy)]
 pub struct Reader<'a> {
     pub listing: &'a [u32],
     pub at: usize,
@@ -107,7 +109,7 @@ fn driving(listing: &[u32], register: u32) -> &[u32]
 // The words that drive the register, the store included: a part of the caller's own listing. An empty part if the listing
 // is not as described, or has no such register.
 pub fn stretch(listing: &[u32], register: u32) -> &[u32]
-    ensures { result.now ≡ stretch-of listing.now register }
+    ensures { result.now ≡ stretch_of listing.now register }
 {
     let meaning::Checked::Described = listing::checked(listing) else {
         return &listing[..0];

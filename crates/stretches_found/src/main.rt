@@ -3,6 +3,8 @@
 //
 // Example: for `a ##1 b` it prints `0 = 01000000 05000000 09000000`, the words a0 any seq0, and `1 =`, since there is no
 // register 1.
+#![tactic(auto)]
+
 
 // `a ##1 b`: a0 any seq0 r0 a1 any and match.
 const DELAY: [u32; 8] = [

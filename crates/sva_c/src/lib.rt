@@ -4,6 +4,8 @@
 //
 // An answer that is an enum becomes a number, 0 where nothing was refused, and its values go to where the caller points.
 // Example: for the words of `a ##1 b` `sva_lower` returns 0 and stores 1 register, 8 words, a deepest stack of 2, and place 0.
+#![tactic(auto)]
+
 ghost use Rattle.sva_c.specs.Boundary.{LowersForC, TicksForC, StretchesForC, MatchesForC};
 
 // Lowers a tree: 0 and the three counts, or a refusal's number and its place.

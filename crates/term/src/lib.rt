@@ -2,6 +2,8 @@
 // guard. It is handed on as one thing, `Kept`, with the slice that it stands in.
 //
 // Example: Bool(7) reached by AtLeast(2) is the words 1, 7, 0, 1, 2; `step` reads it back.
+#![tactic(auto)]
+
 ghost use Rattle.std.specs.Prelude.{◌≡◌, ◌+◌, ◌<◌, ◌≤◌, length};
 ghost use Rattle.words.specs.Written.{Wrote};
 ghost use Rattle.term.specs.Steps.{term_tag, term_atom, term_count, hop_tag, hop_ticks, term_from, hop_from, step_words, step_at};
@@ -9,7 +11,7 @@ ghost use Rattle.term.specs.Keeping.{step_of, guard_of, without_guard, Whole};
 
 // Where an alternative stands in work: its steps begin at `from`, so many of them; its guard, closed by its `and`, stands from `guard` up to
 // `end`; its registers are numbered from `register` on.
-#[derive(Drop)]
+#[derive(Clone, Copy)]
 pub struct Kept {
     pub from: usize,
     pub steps: usize,

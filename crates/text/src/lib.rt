@@ -1,6 +1,8 @@
 // The text of an answer, written into a lent page of bytes, or that the page has no room for it.
 //
 // Example: for `a ##1 b` it is "ok 1 8 2", "seq 0 = a0 any" and "match = r0 a1 any and", a line each.
+#![tactic(auto)]
+
 ghost use Rattle.std.specs.Prelude.{◌≡◌, [], ◌∷◌, ◌+◌, ◌*◌, ◌≤◌, ◌<◌, length, drop};
 ghost use Rattle.words.specs.Written.{Wrote};
 ghost use Rattle.text.specs.Text.{digits, decimal, decimal_then, token_text, tag_text, line_start_text, tokens_text, line_text};
@@ -10,7 +12,7 @@ ghost use Rattle.text.specs.Page.{has_room, Prints};
 use meaning::operation;
 
 // What became of a text: so many bytes in front of the page, or nothing, for want of room.
-#[derive(Drop)]
+#[derive(Clone, Copy)]
 pub enum Printed {
     Text(usize),
     NoRoom,

@@ -5,20 +5,22 @@
 // `listing::checked`, which counts the stores first and so knows the place of the first fault.
 //
 // Example: a0 any seq0 r0 a1 any and match with r0 = 1 and atoms 0, 1 answers bit 1 and leaves 0 in register 0.
+#![tactic(auto)]
+
 ghost use Rattle.std.specs.Prelude.{◌≡◌, false, ◌*◌, ◌+◌, ◌-◌, ◌^◌, ◌≤◌, ◌<◌, max, ltb, length, get_or, set};
 ghost use Rattle.words.specs.Choice.{pick};
 ghost use Rattle.meaning.specs.Check.{check};
-ghost use Rattle.meaning.specs.Tick.{«all-bits»};
+ghost use Rattle.meaning.specs.Tick.{all_bits};
 ghost use Rattle.meaning.specs.declared.Checked.«TheVariants».{Described, Faulty as FaultyAt};
 ghost use Rattle.listing.specs.Step.{Undescribed};
-ghost use Rattle.tick.specs.Survey.{wanted as «wanted-of», lacking, surveyed};
-ghost use Rattle.tick.specs.Stack.{Lent, «value_of», Applicable, Applied, Ready, Evaluated};
+ghost use Rattle.tick.specs.Survey.{wanted as wanted_of, lacking, surveyed};
+ghost use Rattle.tick.specs.Stack.{Lent, value_of, Applicable, Applied, Ready, Evaluated};
 ghost use Rattle.tick.specs.Stepped.{Stepped};
 
 use meaning::{operation, word};
 
 // What a described listing wants: so many registers and atoms, so deep a stack, and each atom that it names a bit.
-#[derive(Drop)]
+#[derive(Clone, Copy)]
 struct Wanted {
     registers: usize,
     atoms: usize,
@@ -27,7 +29,7 @@ struct Wanted {
 }
 
 // The pass's answer: what is wanted, or that refusal 21 applies.
-#[derive(Drop)]
+#[derive(Clone, Copy)]
 enum Surveyed {
     Whole(Wanted),
     Faulty,
@@ -244,7 +246,7 @@ fn step(
     stack: &mut [u8],
     wanted: Wanted,
 ) -> meaning::Ticked
-    requires { (check listing.now ≡ Described) × (wanted ≡ wanted-of listing.now atoms.now) }
+    requires { (check listing.now ≡ Described) × (wanted ≡ wanted_of listing.now atoms.now) }
     ensures { Stepped listing.now cur.now atoms.now next.old next.new stack.old stack.new result }
 {
     if lacks(wanted, cur.len(), atoms.len(), next.len(), stack.len()) {

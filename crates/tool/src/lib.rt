@@ -2,14 +2,16 @@
 // once every byte is out, and the status with which it ends.
 //
 // Example: of `sva_list --help` the command line has two words, the second of which is "--help"; that is Request::Help.
+#![tactic(auto)]
+
 ghost use Rattle.std.specs.Prelude.{◌≡◌, length};
-ghost use Rattle.tool.specs.Request.{«same_bytes», «asked_by», «status-after»};
+ghost use Rattle.tool.specs.Request.{same_bytes, asked_by, status_after};
 ghost use Rattle.tool.specs.Moved.{Within};
 
 use libc::{STDERR_FILENO, STDIN_FILENO, STDOUT_FILENO};
 
 // What a command line asks for.
-#[derive(Drop)]
+#[derive(Clone, Copy)]
 pub enum Request {
     Work,
     Help,
@@ -17,7 +19,7 @@ pub enum Request {
 }
 
 // What reading or writing came to. Where it failed, errno says why.
-#[derive(Drop)]
+#[derive(Clone, Copy)]
 pub enum Moved {
     Bytes(usize),
     Failed,

@@ -2,6 +2,8 @@
 // were written are ticked from registers at zero; a line for each tick has what the atoms were and the answer.
 //
 // Example: `tick 3: a 0, b 1, match 1`.
+#![tactic(auto)]
+
 ghost use Rattle.std.specs.Prelude.{◌≤◌, length};
 
 // Node 0 is a, 1 is b, 2 is node 1 [->2], and 3 is node 0 ##1 node 2.

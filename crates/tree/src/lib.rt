@@ -2,6 +2,8 @@
 //
 // Example: the words 1,0,0,0,0, 1,1,0,0,0, 2,0,1,1,1 are three nodes that pass; with 2,0,0,1,1 for the last, node 0 is
 // used twice and node 1 not at all, so that `checked` answers Refused(2, 0).
+#![tactic(auto)]
+
 ghost use Rattle.std.specs.Prelude.{◌≡◌, true, false, ◌+◌, ◌*◌, ◌≤◌, ◌<◌, length};
 ghost use Rattle.words.specs.Choice.{pick};
 ghost use Rattle.meaning.specs.Tree.{node_at};

@@ -9,6 +9,8 @@
 //
 // Example: `a ##1 b` and below it `32 8  1 0 0 0 0  1 1 0 0 0  2 0 1 1 1` print the name, `ok 1 8 2`, `seq 0 = a0 any` and
 // `match = r0 a1 any and`, a line each.
+#![tactic(auto)]
+
 ghost use Rattle.std.specs.Prelude.{◌≤◌, length};
 
 // What lent words are filled with: not zero, and no word of a listing.

@@ -6,6 +6,8 @@
 //
 // Example: `a within (b ##1 c)` has one pair. The passes count 2 registers and 16 words, write `a1 any seq0`, then
 // `a0 any seq1`, then `r0 a2 any and a0 any r1 or and`, and end the match.
+#![tactic(auto)]
+
 ghost use Rattle.std.specs.Prelude.{◌≡◌, ◌+◌, ◌-◌, ◌*◌, ◌≤◌, ◌<◌, length, get_or};
 ghost use Rattle.words.specs.Written.{Wrote};
 ghost use Rattle.expand.specs.ByNumber.{alternatives_of};
@@ -19,7 +21,7 @@ ghost use Rattle.within.specs.Rows.{Paired, Numberable, Windows, Rowed, Rowing, 
 use meaning::word;
 
 // One alternative of seq2, kept in front of work, with its window; and the node of seq1.
-#[derive(Drop)]
+#[derive(Clone, Copy)]
 struct Row {
     two: term::Kept,
     window: u64,

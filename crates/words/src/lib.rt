@@ -1,4 +1,6 @@
 // Words put into a lent slice, one or those of another, and slices cleared; and a number that stops at 0.
+#![tactic(auto)]
+
 ghost use Rattle.std.specs.Prelude.{◌≡◌, [], ◌∷◌, ◌+◌, ◌-◌, ◌<◌, ◌≤◌, length, replicate};
 ghost use Rattle.words.specs.Written.{Wrote};
 

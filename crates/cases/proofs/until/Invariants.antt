@@ -1,0 +1,12 @@
+-- The loop passes the bytes that are others.
+use borrow.Author.Rules.{rules}
+use Prim.Native.Nat.{◌-◌}
+use lib.ListN.{length}
+use Rattle.cases.proofs.Laws.{Seeking, seeking_begins, seeking_on, seeking_finds, seeking_ends}
+use Rattle.cases.proofs.until.Given as goal
+
+abbrev pub invariant-loop-i : goal.invariant-loop-i
+invariant-loop-i l = Seeking l.text l.from l.byte l.i
+
+abbrev pub decreases-loop-i : goal.decreases-loop-i
+decreases-loop-i l = length l.text - l.i

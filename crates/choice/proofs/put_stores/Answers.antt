@@ -1,0 +1,30 @@
+-- `put_stores` puts the assignments alternative by alternative; what is left of them is said in `Storing`.
+use borrow.Author.Rules.{rules}
+use Prim.Native.Nat.{◌-◌}
+use lib.ListN.{length}
+use Rattle.alternative.proofs.Keeping.{outline_is_there, keepable_again}
+use Rattle.choice.proofs.Passes.{among, now_placed, Storing, storing_begins, stores-fit, storing_on, storing_ends}
+use Rattle.choice.proofs.put_stores.Goals as goal
+
+pub count_of-count-requires : goal.count_of-count-requires
+count_of-count-requires c = search outline_is_there
+
+pub loop-i-init : goal.loop-i-init
+loop-i-init c = search storing_begins
+
+pub keep-kept-requires : goal.keep-kept-requires
+keep-kept-requires c = (search keepable_again, search among)
+
+pub stores-p-requires : goal.stores-p-requires
+stores-p-requires c = (search now_placed, search stores-fit)
+
+pub next_register-r-requires : goal.next_register-r-requires
+next_register-r-requires c = search now_placed
+
+pub loop-i-preserved : goal.loop-i-preserved
+loop-i-preserved c =
+    storing_on c.requires.0 c.count_of-count.ensures c.loop-i.invariant
+    c.loop-i-test.true c.keep-kept.ensures c.stores-p.ensures c.next-register.ensures
+
+pub returns : goal.returns
+returns c = search storing_ends

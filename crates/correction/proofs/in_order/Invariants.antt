@@ -1,0 +1,12 @@
+-- `in_order` decides `ordered`: the loop's rest, from the entry that it looks at.
+use borrow.Author.Rules.{rules}
+use Prim.Native.Nat.{◌-◌}
+use lib.ListN.{length}
+use Rattle.correction.proofs.MapLaws.{Checking, checking_begins, column_outside, too_early, checking_on, checking_ends}
+use Rattle.correction.proofs.in_order.Given as goal
+
+abbrev pub invariant-loop-i : goal.invariant-loop-i
+invariant-loop-i l = Checking l.map l.from l.i
+
+abbrev pub decreases-loop-i : goal.decreases-loop-i
+decreases-loop-i l = length l.map - l.i

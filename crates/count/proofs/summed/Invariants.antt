@@ -1,0 +1,11 @@
+-- The loop has summed up i lists of copies.
+use borrow.Author.Rules.{rules}
+use Prim.Native.Nat.{◌-◌}
+use Rattle.count.proofs.Leaves.{Summing, summing_begins, summing_on, summing_ends}
+use Rattle.count.proofs.summed.Given as goal
+
+abbrev pub invariant-loop-i : goal.invariant-loop-i
+invariant-loop-i l = Summing l.base l.initial.copies l.count l.total l.copies l.i
+
+abbrev pub decreases-loop-i : goal.decreases-loop-i
+decreases-loop-i l = l.count - l.i

@@ -1,0 +1,7 @@
+-- `wrong` compares a value with what is to leave.
+use Rattle.frame.proofs.AtomLaws.{wrong_told}
+use borrow.Author.Rules.{rules}
+use Rattle.frame.proofs.atoms.wrong.Goals as goal
+
+pub returns : goal.returns
+returns c = search wrong_told

@@ -1,0 +1,25 @@
+-- The row of seq2 is added from the lowest end of seq1 on.
+use borrow.Author.Rules.{rules}
+use Prim.Native.Nat.{◌+◌, ◌*◌, ◌≤◌}
+use native.Mathlib.Omega.{arith}
+use lib.ListN.{length}
+use Rattle.runs.proofs.Laws.{row_inside}
+use Rattle.joined_runs.proofs.Lowering.{ends-inside}
+use Rattle.joined_runs.proofs.inside.Goals as goal
+
+-- The row of seq2 that begins at i lies in its table.
+held : (c : tie.Start)
+    → c.args.two + c.args.i * length c.args.row.now + length c.args.row.now ≤ length c.args.tables.now
+held c = row_inside _ _ _ _ c.requires.1 c.requires.2
+
+pub overflow_mul-i : goal.overflow_mul-i
+overflow_mul-i c = omega (arith, held c)
+
+pub overflow_add-two : goal.overflow_add-two
+overflow_add-two c = omega (arith, held c)
+
+pub add_ends-requires : goal.add_ends-requires
+add_ends-requires c = held c
+
+pub returns : goal.returns
+returns c = search ends-inside

@@ -1,0 +1,12 @@
+-- The loop finds the first word that does not fit: it keeps `Passing` with the count of the whole slice.
+use Prim.Native.Nat.{◌-◌}
+use lib.ListN.{length}
+use Rattle.listing.proofs.OnePass.{Passing, passing_begins, passing_on, faulty_here, faulty_past, described_there, ends_early}
+use borrow.Author.Rules.{rules}
+use Rattle.listing.proofs.checked.Given as goal
+
+abbrev pub invariant-loop-at : goal.invariant-loop-at
+invariant-loop-at l = Passing l.count l.listing l.s l.at
+
+abbrev pub decreases-loop-at : goal.decreases-loop-at
+decreases-loop-at l = length l.listing - l.at

@@ -1,0 +1,7 @@
+-- Work is cleared after all answers.
+use borrow.Author.Rules.{rules}
+use Rattle.matches.proofs.AnsweredTicks.{cleared_matches}
+use Rattle.matches.proofs.matches.Goals as goal
+
+pub returns : goal.returns
+returns c = search cleared_matches

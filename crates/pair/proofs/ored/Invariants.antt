@@ -1,0 +1,11 @@
+-- `ored` writes two words a register; what is left of them is said in `Oring`.
+use borrow.Author.Rules.{rules}
+use Prim.Native.Nat.{◌-◌}
+use Rattle.pair.proofs.Delays.{Oring, oring_begins, oring_on, oring_ends}
+use Rattle.pair.proofs.ored.Given as goal
+
+abbrev pub invariant-loop-k : goal.invariant-loop-k
+invariant-loop-k l = Oring l.r l.d l.initial.out l.at l.out l.p l.k
+
+abbrev pub decreases-loop-k : goal.decreases-loop-k
+decreases-loop-k l = l.d - l.k

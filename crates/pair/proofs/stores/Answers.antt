@@ -1,0 +1,20 @@
+-- `stores` writes the assignments of seq1's alternative, then those of its delays.
+use borrow.Author.Rules.{rules}
+use Rattle.pair.proofs.Pairs.{pair_delays_fit, pair_next_fits, pair_slid, own_stores_room, slide_stores_room, pair_stores_done}
+use Rattle.pair.proofs.stores.Goals as goal
+
+-- TODO no goal overflow-add-t13
+add-t13 : tie.Need-overflow-add-t13
+add-t13 c = search pair_next_fits
+
+pub overflow_cast-d : goal.overflow_cast-d
+overflow_cast-d c = search pair_delays_fit
+
+pub stores-a-requires : goal.stores-a-requires
+stores-a-requires c = (search rules, search own_stores_room)
+
+pub slide_stores-p-requires : goal.slide_stores-p-requires
+slide_stores-p-requires c = (search pair_slid, search slide_stores_room)
+
+pub returns : goal.returns
+returns c = search pair_stores_done

@@ -1,0 +1,24 @@
+-- `text` writes seq2's text, seq1's and what closes the pair.
+use borrow.Author.Rules.{rules}
+use Rattle.pair.proofs.Pairs.{pair_delays_fit, pair_next_fits, pair_slid, two_text_room, one_text_room, closing-room, pair_text_done}
+use Rattle.pair.proofs.text.Goals as goal
+
+-- TODO no goal overflow-add-t18
+add-t18 : tie.Need-overflow-add-t18
+add-t18 c = search pair_next_fits
+
+pub overflow_cast-d : goal.overflow_cast-d
+overflow_cast-d c = search pair_delays_fit
+
+pub text-a-requires : goal.text-a-requires
+text-a-requires c = (search rules, search two_text_room)
+
+pub slid_text-b-requires : goal.slid_text-b-requires
+slid_text-b-requires c = (search pair_slid, search one_text_room)
+
+pub closed-p-requires : goal.closed-p-requires
+closed-p-requires c = search closing-room
+
+pub returns : goal.returns
+returns c =
+    pair_text_done _ _ c.next-register.ensures _ c.text-a.ensures c.slid-text.ensures c.closed-p.ensures

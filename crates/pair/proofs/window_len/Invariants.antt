@@ -1,0 +1,11 @@
+-- `window_len` adds up the hops of the steps after the first; what is left of them is said in `Windowing`.
+use borrow.Author.Rules.{rules}
+use Prim.Native.Nat.{◌-◌}
+use Rattle.pair.proofs.Windows.{Windowing, windowing_begins, windowing_on, windowing_ends}
+use Rattle.pair.proofs.window_len.Given as goal
+
+abbrev pub invariant-loop-k : goal.invariant-loop-k
+invariant-loop-k l = Windowing l.work l.kept l.total l.k
+
+abbrev pub decreases-loop-k : goal.decreases-loop-k
+decreases-loop-k l = l.kept.steps - l.k

@@ -1,0 +1,17 @@
+-- `empties_fit` looks at hop after hop up to one that does not fit; what is left of them is said in `Fitting`.
+use Prim.Native.Nat.{◌-◌}
+use Rattle.pipeline.proofs.Fit.{Fitting, fitting-begins, fitting_on, fitting_fails, fitting-ends}
+use borrow.Author.Rules.{rules}
+use Rattle.pipeline.proofs.empties_fit.Goals as goal
+
+pub loop-k-init : goal.loop-k-init
+loop-k-init c = search fitting-begins
+
+pub returns-then-not-hop_fits : goal.returns-then-not-hop_fits
+returns-then-not-hop_fits c = search fitting_fails
+
+pub loop-k-preserved : goal.loop-k-preserved
+loop-k-preserved c = search fitting_on
+
+pub returns : goal.returns
+returns c = search fitting-ends

@@ -1,0 +1,11 @@
+-- `laters` puts the stores of step after step; what is left of them is said in `Storing`.
+use Prim.Native.Nat.{◌-◌}
+use Rattle.pipeline.proofs.Laws.{Storing, first_high, storing_begins, storing_high, storing_ready, storing_later, storing_room, storing_on, storing_ends}
+use borrow.Author.Rules.{rules}
+use Rattle.pipeline.proofs.laters.Given as goal
+
+abbrev pub invariant-loop-k : goal.invariant-loop-k
+invariant-loop-k l = Storing l.work l.kept l.initial.out l.at l.out l.p l.k l.r
+
+abbrev pub decreases-loop-k : goal.decreases-loop-k
+decreases-loop-k l = l.kept.steps - l.k

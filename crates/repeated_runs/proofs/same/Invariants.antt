@@ -1,0 +1,11 @@
+-- The loop goes on while the two rows are the same.
+use borrow.Author.Rules.{rules}
+use Prim.Native.Nat.{◌-◌}
+use Rattle.repeated_runs.proofs.Rows.{Comparing, comparing_begins, comparing_on, differ_here, differ_nowhere}
+use Rattle.repeated_runs.proofs.same.Given as goal
+
+abbrev pub invariant-loop-j : goal.invariant-loop-j
+invariant-loop-j l = Comparing l.x l.y l.side l.j
+
+abbrev pub decreases-loop-j : goal.decreases-loop-j
+decreases-loop-j l = l.side - l.j

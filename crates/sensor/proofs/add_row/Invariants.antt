@@ -1,0 +1,12 @@
+-- `add_row` puts the entries of a row, column by column.
+use borrow.Author.Rules.{rules}
+use Prim.Native.Nat.{◌-◌}
+use Rattle.sensor.specs.Maps.{row_entries}
+use Rattle.sensor.proofs.Laws.{Filling, filling_begins, column_on, row_ends}
+use Rattle.sensor.proofs.add_row.Given as goal
+
+abbrev pub invariant-loop-column : goal.invariant-loop-column
+invariant-loop-column l = Filling l.initial.map l.place (row_entries l.loaded l.row 752 0) l.map l.next (row_entries l.loaded l.row (752 - l.column) l.column)
+
+abbrev pub decreases-loop-column : goal.decreases-loop-column
+decreases-loop-column l = 752 - l.column

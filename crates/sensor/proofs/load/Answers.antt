@@ -1,0 +1,15 @@
+-- `load` puts the entries of the map, row by row.
+use borrow.Author.Rules.{rules}
+use Prim.Native.Nat.{◌-◌}
+use Rattle.sensor.specs.Maps.{entries_of, entries_from}
+use Rattle.sensor.proofs.Laws.{Filling, filling_begins, row_on, map-ends}
+use Rattle.sensor.proofs.load.Goals as goal
+
+pub loop-row-init : goal.loop-row-init
+loop-row-init c = search (filling_begins, rules)
+
+pub loop-row-preserved : goal.loop-row-preserved
+loop-row-preserved c = search row_on
+
+pub returns : goal.returns
+returns c = record { wrote = search map-ends; inside = search rules }

@@ -1,0 +1,12 @@
+-- `load` puts the entries of the map, row by row.
+use borrow.Author.Rules.{rules}
+use Prim.Native.Nat.{◌-◌}
+use Rattle.sensor.specs.Maps.{entries_of, entries_from}
+use Rattle.sensor.proofs.Laws.{Filling, filling_begins, row_on, map-ends}
+use Rattle.sensor.proofs.load.Given as goal
+
+abbrev pub invariant-loop-row : goal.invariant-loop-row
+invariant-loop-row l = Filling l.initial.map 0 (entries_of l.loaded) l.map l.place (entries_from l.loaded (752 - l.row) l.row)
+
+abbrev pub decreases-loop-row : goal.decreases-loop-row
+decreases-loop-row l = 752 - l.row

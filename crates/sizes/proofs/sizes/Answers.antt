@@ -1,0 +1,20 @@
+-- `sizes` counts step after step; what is left of them is said in `Sizing`.
+use Prim.Native.Nat.{◌-◌}
+use Rattle.sizes.proofs.Laws.{Sizing, guard-short, sizing_begins, sizing_guard, sizing_text, sizing_stores, sizing_registers, sizing_on, sizing_ends}
+use borrow.Author.Rules.{rules}
+use Rattle.sizes.proofs.sizes.Goals as goal
+
+pub first_size-z-requires : goal.first_size-z-requires
+first_size-z-requires c = search guard-short
+
+pub loop-k-init : goal.loop-k-init
+loop-k-init c = search sizing_begins
+
+pub step_size-z-requires : goal.step_size-z-requires
+step_size-z-requires c = (search sizing_guard, search sizing_registers, search sizing_text, search sizing_stores)
+
+pub loop-k-preserved : goal.loop-k-preserved
+loop-k-preserved c = search sizing_on
+
+pub returns : goal.returns
+returns c = search sizing_ends

@@ -1,0 +1,12 @@
+-- The loop copies the bytes one behind the other.
+use borrow.Author.Rules.{rules}
+use Prim.Native.Nat.{◌-◌}
+use lib.ListN.{length}
+use Rattle.words.proofs.Laws.{Copying, copying_begins, copying_on, copying_ends}
+use Rattle.text.proofs.copied.Given as goal
+
+abbrev pub invariant-loop-i : goal.invariant-loop-i
+invariant-loop-i l = Copying l.bytes l.initial.out l.at l.out l.next l.i
+
+abbrev pub decreases-loop-i : goal.decreases-loop-i
+decreases-loop-i l = length l.bytes - l.i

@@ -1,0 +1,15 @@
+-- The loop writes a line for each store; the search after each finds the next.
+use borrow.Author.Rules.{rules}
+use Prim.Native.Nat.{◌-◌}
+use lib.ListN.{length}
+use Rattle.text.proofs.ListingLines.{Lining, lining_begins, lining_on, lining_ends}
+use Rattle.text.proofs.lines.Goals as goal
+
+pub loop-end-init : goal.loop-end-init
+loop-end-init c = search lining_begins
+
+pub loop-end-preserved : goal.loop-end-preserved
+loop-end-preserved c = search lining_on
+
+pub returns : goal.returns
+returns c = search lining_ends

@@ -1,0 +1,13 @@
+-- The whole text where there is room for it, and nothing elsewhere.
+use borrow.Author.Rules.{rules}
+use Rattle.text.proofs.Room.{words_stand, page_suffices, text-printed, nothing-printed}
+use Rattle.text.proofs.text.Goals as goal
+
+pub whole_text-end-requires : goal.whole_text-end-requires
+whole_text-end-requires c = (search words_stand, search page_suffices)
+
+pub returns-then-has_room : goal.returns-then-has_room
+returns-then-has_room c = search text-printed
+
+pub returns : goal.returns
+returns c = search nothing-printed

@@ -1,0 +1,15 @@
+-- The loop writes a space and a token for each word.
+use borrow.Author.Rules.{rules}
+use Prim.Native.Nat.{◌-◌}
+use lib.ListN.{length}
+use Rattle.text.proofs.ListingLines.{Spelling, spelling_begins, spelling_on, spelling_ends}
+use Rattle.text.proofs.tokens.Goals as goal
+
+pub loop-i-init : goal.loop-i-init
+loop-i-init c = search spelling_begins
+
+pub loop-i-preserved : goal.loop-i-preserved
+loop-i-preserved c = search spelling_on
+
+pub returns : goal.returns
+returns c = search spelling_ends

@@ -1,0 +1,13 @@
+-- The two uses, one after the other, are those of the node.
+use Rattle.tree.proofs.Uses.{left-within, right-within, used_both}
+use borrow.Author.Rules.{rules}
+use Rattle.tree.proofs.use_operands.Goals as goal
+
+pub use_if-requires : goal.use_if-requires
+use_if-requires c = search left-within
+
+pub use_if-requires-2 : goal.use_if-requires-2
+use_if-requires-2 c = search right-within
+
+pub returns : goal.returns
+returns c = search used_both

@@ -1,0 +1,11 @@
+-- `replay` stays inside the input: less of it is left each turn.
+use borrow.Author.Rules.{rules}
+use Prim.Native.Nat.{◌-◌}
+use lib.ListN.{length}
+use Rattle.trees_replayed.proofs.replay.Given as goal
+
+abbrev pub invariant-loop-from : goal.invariant-loop-from
+invariant-loop-from l = Unit {0}
+
+abbrev pub decreases-loop-from : goal.decreases-loop-from
+decreases-loop-from l = length l.input - l.from

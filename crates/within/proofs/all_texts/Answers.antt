@@ -1,0 +1,38 @@
+-- `all_texts` writes the texts of one row after the other; what is left is said in `AllTexts`.
+use borrow.Author.Rules.{rules}
+use Prim.Native.Nat.{◌-◌}
+use Rattle.alternative.proofs.Keeping.{outline_is_there}
+use Rattle.within.proofs.Rows.{two-keepable, rows-pairs}
+use Rattle.within.proofs.Numbering.{row-placed, row_pairs_small, row-ended}
+use Rattle.within.proofs.TextPass.{AllTexts, all_texts_begin, row_texts-room, all_texts_on, all_texts_end}
+use Rattle.within.proofs.all_texts.Goals as goal
+
+pub count_of-count-requires : goal.count_of-count-requires
+count_of-count-requires c = search (outline_is_there, two-keepable)
+
+pub loop-i-init : goal.loop-i-init
+loop-i-init c = search all_texts_begin
+
+pub next_register-r-requires : goal.next_register-r-requires
+next_register-r-requires c = search row-placed
+
+pub pairs_texts-m-requires : goal.pairs_texts-m-requires
+pairs_texts-m-requires c =
+    let more = c.loop-i-test.true in (
+      (
+        rows-pairs c.row_of-row.ensures.rowed c.loop-i.invariant.numbers.rows.measured,
+        row_pairs_small c.loop-i.invariant.numbers more c.row_of-row.ensures.rowed c.next-register.ensures,
+      ),
+      (
+        row-ended c.loop-i.invariant.numbers more c.row_of-row.ensures.rowed c.next-register.ensures,
+        (c.loop-i.invariant.begun, row_texts-room c.loop-i.invariant more c.row_of-row.ensures.rowed c.next-register.ensures),
+      ),
+    )
+
+pub loop-i-preserved : goal.loop-i-preserved
+loop-i-preserved c =
+    all_texts_on c.loop-i.invariant c.loop-i-test.true c.row_of-row.ensures.rowed c.next-register.ensures c.pairs_texts-m.ensures
+    (search rules) (search rules)
+
+pub returns : goal.returns
+returns c = search all_texts_end

@@ -1,0 +1,14 @@
+-- `put_stores` writes the assignments of one row after the other; what is left is said in `AllStores`.
+use borrow.Author.Rules.{rules}
+use Prim.Native.Nat.{◌-◌}
+use Rattle.alternative.proofs.Keeping.{outline_is_there}
+use Rattle.within.proofs.Rows.{two-keepable, rows-pairs}
+use Rattle.within.proofs.Numbering.{row-placed, row_pairs_small}
+use Rattle.within.proofs.StorePass.{AllStores, all_stores_begin, row_own_room, row_pairs_room, all_stores_on, all_stores_end}
+use Rattle.within.proofs.put_stores.Given as goal
+
+abbrev pub invariant-loop-i : goal.invariant-loop-i
+invariant-loop-i l = AllStores l.t l.outline l.windows l.one l.two l.initial.m l.count l.initial.work l.work l.initial.out l.out l.m l.i
+
+abbrev pub decreases-loop-i : goal.decreases-loop-i
+decreases-loop-i l = l.count - l.i

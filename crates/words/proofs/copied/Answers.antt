@@ -1,0 +1,15 @@
+-- `copied` puts one word after the other; what is left of them is said in `Copying`.
+use Prim.Native.Nat.{◌-◌}
+use borrow.Author.Rules.{rules}
+use lib.ListN.{length}
+use Rattle.words.proofs.Laws.{Copying, copying_begins, copying_on, copying_ends}
+use Rattle.words.proofs.copied.Goals as goal
+
+pub loop-i-init : goal.loop-i-init
+loop-i-init c = search copying_begins
+
+pub loop-i-preserved : goal.loop-i-preserved
+loop-i-preserved c = search copying_on
+
+pub returns : goal.returns
+returns c = search copying_ends

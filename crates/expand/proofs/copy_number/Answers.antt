@@ -3,10 +3,6 @@ use borrow.Author.Rules.{rules}
 use Rattle.expand.proofs.Outlines.{zero_copy_number, last_copy_found, weight_few, weight_some, earlier_copy_found}
 use Rattle.expand.proofs.copy_number.Goals as goal
 
--- TODO no goal nonzero-div-result
-div-result : tie.Need-nonzero-div-result
-div-result c = search weight_some
-
 pub returns-then-i-eq0 : goal.returns-then-i-eq0
 returns-then-i-eq0 c = search zero_copy_number
 

@@ -12,10 +12,6 @@ held : (c : tie.Start)
     → c.args.left + c.args.i * length c.args.row.now + length c.args.row.now ≤ length c.args.tables.now
 held c = row_inside _ _ _ _ c.requires.0 c.requires.2
 
--- TODO no goal slice-bounds-reach-end
-part-reach-end : tie.Need-slice-bounds-reach-end
-part-reach-end c = omega (arith, held c.before.before)
-
 pub overflow_mul-place : goal.overflow_mul-place
 overflow_mul-place c = omega (arith, held c)
 

@@ -3,10 +3,6 @@ use borrow.Author.Rules.{rules}
 use Rattle.pair.proofs.Pairs.{pair_delays_fit, pair_next_fits, pair_slid, own_stores_room, slide_stores_room, pair_stores_done}
 use Rattle.pair.proofs.stores.Goals as goal
 
--- TODO no goal overflow-add-t13
-add-t13 : tie.Need-overflow-add-t13
-add-t13 c = search pair_next_fits
-
 pub overflow_cast-d : goal.overflow_cast-d
 overflow_cast-d c = search pair_delays_fit
 

@@ -3,10 +3,6 @@ use borrow.Author.Rules.{rules}
 use Rattle.pair.proofs.Pairs.{pair_delays_fit, pair_next_fits, pair_slid, two_text_room, one_text_room, closing-room, pair_text_done}
 use Rattle.pair.proofs.text.Goals as goal
 
--- TODO no goal overflow-add-t18
-add-t18 : tie.Need-overflow-add-t18
-add-t18 c = search pair_next_fits
-
 pub overflow_cast-d : goal.overflow_cast-d
 overflow_cast-d c = search pair_delays_fit
 

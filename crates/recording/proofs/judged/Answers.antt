@@ -3,10 +3,6 @@ use Rattle.recording.proofs.Judging.{a_refused_tree, few-nodes, refused_rows, so
 use borrow.Author.Rules.{rules}
 use Rattle.recording.proofs.judged.Goals as goal
 
--- TODO no goal nonzero-div-ticks
-div-ticks : tie.Need-nonzero-div-ticks
-div-ticks c = search some_width
-
 pub returns-in_default : goal.returns-in_default
 returns-in_default c = search a_refused_tree
 

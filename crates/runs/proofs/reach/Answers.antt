@@ -1,11 +1,11 @@
 -- The loop adds what is reached from one point after another.
 use borrow.Author.Rules.{rules}
-use mathlib.Core.Logic.{⊎_elim}
 use Prim.Native.Nat.{◌-◌}
 use native.Mathlib.Omega.{arith}
 use lib.ListN.{length}
 use Rattle.runs.proofs.Reaching.{Reaching, reaching_begins, reaching_inside, reaching_on, reaching_past, reaching_ends}
 use Rattle.runs.proofs.reach.Goals as goal
+use Rattle.runs.proofs.reach.Goals.{then-from-k-eq1, else-from-k-eq1}
 
 pub loop-k-init : goal.loop-k-init
 loop-k-init c = search reaching_begins
@@ -24,7 +24,7 @@ pub add_ends-requires : goal.add_ends-requires
 add_ends-requires c = search reaching_inside
 
 pub loop-k-preserved : goal.loop-k-preserved
-loop-k-preserved c = ⊎_elim (λ w. rw w.5 (search reaching_on)) (λ w. rw w.1 (search reaching_past)) c.if-from-k-eq1.branch
+loop-k-preserved c = elim c.if-from-k-eq1.branch [ then-from-k-eq1 w ↦ rw w.to-is (search reaching_on) | else-from-k-eq1 w ↦ rw w.to-is (search reaching_past) ]
 
 pub returns : goal.returns
 returns c = search reaching_ends

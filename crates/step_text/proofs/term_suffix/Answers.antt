@@ -5,10 +5,6 @@ use Rattle.step_text.proofs.Laws.{suffix_in, suffix_room, atom-fits}
 use borrow.Author.Rules.{rules}
 use Rattle.step_text.proofs.term_suffix.Goals as goal
 
--- TODO no goal overflow-add-t11
-add-t11 : tie.Need-overflow-add-t11
-add-t11 c = search atom-fits
-
 pub copied-requires : goal.copied-requires
 unfolding term_suffix
 copied-requires c = search suffix_room

@@ -31,7 +31,7 @@ product-c-requires t c = (search rules, search answer_is_small)
 
 pub loop-k-preserved : goal.loop-k-preserved
 loop-k-preserved t c =
-    joining_on c.requires.1.0 c.if-depth-gt256.false c.visits.ensures c.loop-k-test.true c.operand.ensures c.loop-k.invariant c.walked-under.ensures.value (search rules) c.walked-under.ensures.noted c.product-c.ensures (search rules)
+    joining_on c.requires.0 c.if-depth-gt256.false c.visits.ensures c.loop-k-test.true c.operand.ensures c.loop-k.invariant c.walked-under.ensures.value (search rules) c.walked-under.ensures.noted c.product-c.ensures (search rules)
 
 pub answered-requires : goal.answered-requires
 answered-requires t c = (search answerable, search joined_small)

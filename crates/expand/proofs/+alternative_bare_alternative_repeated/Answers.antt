@@ -34,7 +34,7 @@ bare_alternative-alternative-requires t c = (search right-below, (search right-n
 
 pub bare_alternative-returns-then-v-eq-DELAY : goal.bare_alternative-returns-then-v-eq-DELAY
 bare_alternative-returns-then-v-eq-DELAY t c =
-    let given = c.requires.1 in
+    let given = c.requires in
     delay-written _ _ _ given.0 given.1 c.read-v.ensures c.if-v-eq-DELAY.true c.delay_parts-s.ensures c.alternative-w.ensures c.alternative.ensures
 
 pub bare_alternative-alternative-requires-then-v-eq-THROUGHOUT : goal.bare_alternative-alternative-requires-then-v-eq-THROUGHOUT
@@ -52,7 +52,7 @@ bare_alternative-repeated-requires t c = (search (block_below, copied), (search 
 
 pub bare_alternative-returns-then-made_of_copies : goal.bare_alternative-returns-then-made_of_copies
 bare_alternative-returns-then-made_of_copies t c =
-    let given = c.requires.1 in
+    let given = c.requires in
     block_written _ _ _ given.0 given.1 c.read-v.ensures (copied _ _ c.made_of_copies.ensures c.if-made_of_copies.true) c.copies_block-s.ensures c.repeated.ensures
 
 pub bare_alternative-single_term-x-requires : goal.bare_alternative-single_term-x-requires

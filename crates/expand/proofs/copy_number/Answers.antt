@@ -12,5 +12,8 @@ returns-then-later-eq0 c = search last_copy_found
 pub count_copies-requires : goal.count_copies-requires
 count_copies-requires c = (search rules, search weight_few)
 
+pub nonzero_div-result : goal.nonzero_div-result
+nonzero_div-result c = search weight_some
+
 pub returns : goal.returns
 returns c = search earlier_copy_found

@@ -13,11 +13,11 @@ pub add_ahead-requires : goal.add_ahead-requires
 add_ahead-requires c = let p = c.requires in rw (sym (lent-long _ (replicate 257 0) p.3)) (p.0, p.2)
 
 pub slice_bounds-starts-end-2 : goal.slice_bounds-starts-end-2
-slice_bounds-starts-end-2 c = lent_fits (replicate 257 0) _ c.requires.3 c.add-ahead.ensures
+slice_bounds-starts-end-2 c = lent_fits (replicate 257 0) _ c.requires.3 c.add_ahead.ensures
 
 pub slice_bounds-reach-end : goal.slice_bounds-reach-end
 slice_bounds-reach-end c =
-    lent-long _ _ (lent_fits (replicate 257 0) _ c.requires.3 c.add-ahead.ensures)
+    lent-long _ _ (lent_fits (replicate 257 0) _ c.requires.3 c.add_ahead.ensures)
 
 pub reach-requires : goal.reach-requires
 reach-requires c = (search rules, lent-short _ _, search rules)
@@ -25,5 +25,5 @@ reach-requires c = (search rules, lent-short _ _, search rules)
 pub returns : goal.returns
 returns c =
     let a = c.args in
-    reached_later a.tables.now a.left a.right _ _ _ (replicate 257 0) _ (zeros_blank 257) c.requires.3 c.add-ahead.ensures
+    reached_later a.tables.now a.left a.right _ _ _ (replicate 257 0) _ (zeros_blank 257) c.requires.3 c.add_ahead.ensures
     c.reach.ensures

@@ -7,22 +7,17 @@ use Rattle.runs.proofs.Laws.{row_inside}
 use Rattle.joined_runs.proofs.Delays.{reached_overlapped}
 use Rattle.joined_runs.proofs.add_overlapped.Goals as goal
 
--- The row of the left that begins at i lies in its table.
-held : (c : tie.Start)
-    → c.args.left + c.args.i * length c.args.row.now + length c.args.row.now ≤ length c.args.tables.now
-held c = row_inside _ _ _ _ c.requires.0 c.requires.2
-
 pub overflow_mul-place : goal.overflow_mul-place
-overflow_mul-place c = omega (arith, held c)
+overflow_mul-place c = omega (arith, row_inside _ _ _ _ c.requires.0 c.requires.2)
 
 pub overflow_add-place : goal.overflow_add-place
-overflow_add-place c = omega (arith, held c)
+overflow_add-place c = omega (arith, row_inside _ _ _ _ c.requires.0 c.requires.2)
 
 pub overflow_add-last : goal.overflow_add-last
-overflow_add-last c = omega (arith, held c)
+overflow_add-last c = omega (arith, row_inside _ _ _ _ c.requires.0 c.requires.2)
 
 pub overflow_add-place-2 : goal.overflow_add-place-2
-overflow_add-place-2 c = omega (arith, held c)
+overflow_add-place-2 c = omega (arith, row_inside _ _ _ _ c.requires.0 c.requires.2)
 
 pub returns : goal.returns
 returns c = search reached_overlapped

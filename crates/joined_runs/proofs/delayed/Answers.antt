@@ -6,7 +6,7 @@ use Rattle.joined_runs.proofs.delayed.Goals as goal
 pub add_overlapped-requires : goal.add_overlapped-requires
 add_overlapped-requires c =
     let p = c.requires in
-    rw c.add-later.ensures.long (p.0, p.1, p.2)
+    rw c.add_later.ensures.long (p.0, p.1, p.2)
 
 pub returns-then-min-eq0 : goal.returns-then-min-eq0
 returns-then-min-eq0 c = search delayed_overlapped

@@ -7,19 +7,14 @@ use Rattle.runs.proofs.Laws.{row_inside}
 use Rattle.joined_runs.proofs.Lowering.{ends-inside}
 use Rattle.joined_runs.proofs.inside.Goals as goal
 
--- The row of seq2 that begins at i lies in its table.
-held : (c : tie.Start)
-    → c.args.two + c.args.i * length c.args.row.now + length c.args.row.now ≤ length c.args.tables.now
-held c = row_inside _ _ _ _ c.requires.1 c.requires.2
-
 pub overflow_mul-i : goal.overflow_mul-i
-overflow_mul-i c = omega (arith, held c)
+overflow_mul-i c = omega (arith, row_inside _ _ _ _ c.requires.1 c.requires.2)
 
 pub overflow_add-two : goal.overflow_add-two
-overflow_add-two c = omega (arith, held c)
+overflow_add-two c = omega (arith, row_inside _ _ _ _ c.requires.1 c.requires.2)
 
 pub add_ends-requires : goal.add_ends-requires
-add_ends-requires c = held c
+add_ends-requires c = row_inside _ _ _ _ c.requires.1 c.requires.2
 
 pub returns : goal.returns
 returns c = search ends-inside

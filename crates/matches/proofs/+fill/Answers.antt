@@ -30,11 +30,11 @@ fill-requires-then-joins_two t c = (search left-lower, (search fillable_still, s
 
 pub fill-requires-then-joins_two-2 : goal.fill-requires-then-joins_two-2
 fill-requires-then-joins_two-2 t c =
-    (search right-lower, (fillable_still c.requires.1.0 c.fill-then-joins_two.ensures, search right_inside))
+    (search right-lower, (fillable_still c.requires.0 c.fill-then-joins_two.ensures, search right_inside))
 
 pub fill_table-requires-then-joins_two : goal.fill_table-requires-then-joins_two
 fill_table-requires-then-joins_two t c =
-    ready_to_join c.requires.1.0 c.requires.1.1 c.read-v.ensures c.joins-two.ensures c.if-joins_two.true
+    ready_to_join c.requires.0 c.requires.1 c.read-v.ensures c.joins-two.ensures c.if-joins_two.true
     c.fill-then-joins_two.ensures c.fill-then-joins_two-2.ensures
 
 pub returns-then-joins_two : goal.returns-then-joins_two

@@ -3,6 +3,9 @@ use Rattle.recording.proofs.Judging.{a_refused_tree, few-nodes, refused_rows, so
 use borrow.Author.Rules.{rules}
 use Rattle.recording.proofs.judged.Goals as goal
 
+pub nonzero_div-ticks : goal.nonzero_div-ticks
+nonzero_div-ticks c = search some_width
+
 pub returns-in_default : goal.returns-in_default
 returns-in_default c = search a_refused_tree
 

@@ -1,4 +1,2 @@
 pub mod Laws
-pub mod Held
-pub mod Standing
 pub mod Starting

@@ -3,10 +3,9 @@
 // Example: in `a0 any seq0 r0 a1 any and match` the words `a0 any seq0` drive register 0. They are its assignment: an
 // expression and the store that ends it.
 //
-// Functions on a plain slice and a place do the reading. The reader's own functions take it apart and call them, no more:
-// the proof of a function over a struct that holds a reference goes by hand through its MIR. `driving` walks with
-// the reader from assignment to assignment, and `stretch`, which others call, has plain parameters. `start` is for a caller
-// who cannot be handed a part, and takes its place.
+// Functions on a plain slice and a place do the reading. The reader's own functions take it apart and call them, no more.
+// `driving` walks with the reader from assignment to assignment, and `stretch`, which others call, has plain parameters.
+// `start` is for a caller who cannot be handed a part, and takes its place.
 #![tactic(auto)]
 
 ghost use Rattle.std.specs.Prelude.{◌≡◌, [], ◌+◌, length};

@@ -1,8 +1,7 @@
 -- `another_at` meets its contract: while its loop runs, no store was passed, so the next word decides what the whole does.
-use borrow.Author.Rules.{rules}
 use Prim.Native.Nat.{◌-◌}
 use lib.ListN.{length}
-use Rattle.stretch.proofs.Laws.{Seeking, seeking_begins, seeking_on, seeking_found, seeking_ends}
+use Rattle.stretch.proofs.Laws.{Seeking}
 use Rattle.stretch.proofs.another_at.Given as goal
 
 abbrev pub invariant-loop-here : goal.invariant-loop-here

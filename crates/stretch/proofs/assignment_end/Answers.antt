@@ -1,8 +1,5 @@
 -- `assignment_end` meets its contract: while its loop runs, the assignment goes on at the place that is read.
-use borrow.Author.Rules.{rules}
-use Prim.Native.Nat.{◌-◌}
-use lib.ListN.{length}
-use Rattle.stretch.proofs.Laws.{Passing, passing_begins, passing_on, passing_stops, passing_ends}
+use Rattle.stretch.proofs.Laws.{passing_begins, passing_on, passing_stops, passing_ends}
 use Rattle.stretch.proofs.assignment_end.Goals as goal
 
 pub loop-here-init : goal.loop-here-init

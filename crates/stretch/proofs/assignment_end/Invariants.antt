@@ -1,8 +1,7 @@
 -- `assignment_end` meets its contract: while its loop runs, the assignment goes on at the place that is read.
-use borrow.Author.Rules.{rules}
 use Prim.Native.Nat.{◌-◌}
 use lib.ListN.{length}
-use Rattle.stretch.proofs.Laws.{Passing, passing_begins, passing_on, passing_stops, passing_ends}
+use Rattle.stretch.proofs.Laws.{Passing}
 use Rattle.stretch.proofs.assignment_end.Given as goal
 
 abbrev pub invariant-loop-here : goal.invariant-loop-here

@@ -1,8 +1,7 @@
 -- `driving_start` meets its contract: what its loop passed holds no assignment of the register.
-use borrow.Author.Rules.{rules}
 use Prim.Native.Nat.{◌-◌}
 use lib.ListN.{length}
-use Rattle.stretch.proofs.Starting.{Starting, starting_begins, starting_on, starting_nearer, starting_found, starting_ends}
+use Rattle.stretch.proofs.Starting.{Starting}
 use Rattle.stretch.proofs.driving_start.Given as goal
 
 abbrev pub invariant-loop-here : goal.invariant-loop-here

@@ -1,5 +1,4 @@
 -- `start` meets its contract: the answer of the check decides, and `driving_start` finds the place.
-use borrow.Author.Rules.{rules}
 use Rattle.stretch.proofs.Starting.{start_described, start_faulty}
 use Rattle.stretch.proofs.start.Goals as goal
 

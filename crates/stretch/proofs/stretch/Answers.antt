@@ -1,6 +1,5 @@
 -- `stretch` meets its contract: the answer of the check decides, and `driving` finds the words.
 use Rattle.stretch.proofs.Laws.{stretch-described, stretch_faulty}
-use borrow.Author.Rules.{rules}
 use Rattle.stretch.proofs.stretch.Goals as goal
 
 pub returns-in_default : goal.returns-in_default

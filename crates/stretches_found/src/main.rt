@@ -5,7 +5,6 @@
 // register 1.
 #![tactic(auto)]
 
-
 // `a ##1 b`: a0 any seq0 r0 a1 any and match.
 const DELAY: [u32; 8] = [
     0x0100_0000,

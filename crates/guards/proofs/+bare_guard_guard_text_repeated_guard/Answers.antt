@@ -22,7 +22,7 @@ bare_guard-join_guards-requires t c = search delay_join_room
 pub bare_guard-returns-then-v-eq-DELAY : goal.bare_guard-returns-then-v-eq-DELAY
 bare_guard-returns-then-v-eq-DELAY t c =
     let p = c.requires in
-    delay-guarded _ _ p.0 p.1 c.read-v.ensures c.if-v-eq-DELAY.true c.delay_parts-s.ensures c.guard_text-middle.ensures c.guard-text2.ensures c.join-guards.ensures
+    delay-guarded _ _ p.0 p.1 c.read-v.ensures c.if-v-eq-DELAY.true c.delay_parts-s.ensures c.guard_text-middle.ensures c.guard_text-end.ensures c.join_guards.ensures
 
 pub bare_guard-guard_text-middle-requires-then-v-eq-THROUGHOUT : goal.bare_guard-guard_text-middle-requires-then-v-eq-THROUGHOUT
 bare_guard-guard_text-middle-requires-then-v-eq-THROUGHOUT t c = (search guarded-below, (search guarded-numbered, search under-room))

@@ -34,7 +34,7 @@ fill-requires-then-joins_two-2 t c =
 
 pub fill_table-requires-then-joins_two : goal.fill_table-requires-then-joins_two
 fill_table-requires-then-joins_two t c =
-    ready_to_join c.requires.0 c.requires.1 c.read-v.ensures c.joins-two.ensures c.if-joins_two.true
+    ready_to_join c.requires.0 c.requires.1 c.read-v.ensures c.joins_two.ensures c.if-joins_two.true
     c.fill-then-joins_two.ensures c.fill-then-joins_two-2.ensures
 
 pub returns-then-joins_two : goal.returns-then-joins_two

@@ -52,8 +52,8 @@ inside-requires c = (search (operand-stands, one_below), search (operand-stands,
 
 pub returns-then-v-eq-WITHIN : goal.returns-then-v-eq-WITHIN
 returns-then-v-eq-WITHIN c =
-    inside_added c.requires.0 c.read-v.ensures c.if-v-eq-WITHIN.true c.table-of5.ensures
-    c.table-of6.ensures c.inside.ensures
+    inside_added c.requires.0 c.read-v.ensures c.if-v-eq-WITHIN.true c.table_of-then-v-eq-WITHIN.ensures
+    c.table_of-then-v-eq-WITHIN-2.ensures c.inside.ensures
 
 pub read-atom-requires : goal.read-atom-requires
 read-atom-requires c = (search (counted_readable, counts_on), search (counted_of_few, counts_on))

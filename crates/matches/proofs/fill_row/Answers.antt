@@ -20,4 +20,4 @@ put_ends-requires c =
 
 pub returns : goal.returns
 returns c =
-    zeros_filled (replicate 257 0) refl c.requires.0 c.put-ends.ensures
+    zeros_filled (replicate 257 0) refl c.requires.0 c.put_ends.ensures

@@ -17,4 +17,4 @@ closed-p-requires c = search closing-room
 
 pub returns : goal.returns
 returns c =
-    pair_text_done _ _ c.next-register.ensures _ c.text-a.ensures c.slid-text.ensures c.closed-p.ensures
+    pair_text_done _ _ c.next-register.ensures _ c.text-a.ensures c.slid_text.ensures c.closed-p.ensures

@@ -11,10 +11,10 @@ pub read_full-count-requires : goal.read_full-count-requires
 read_full-count-requires c = tt
 
 pub slice_bounds-input-end : goal.slice_bounds-input-end
-slice_bounds-input-end c = c.read-full.ensures.0
+slice_bounds-input-end c = c.read_full.ensures
 
 pub slice_bounds-replay-end : goal.slice_bounds-replay-end
-slice_bounds-replay-end c = c.read-full.ensures.1
+slice_bounds-replay-end c = c.read_full.ensures
 
 pub replay-requires : goal.replay-requires
 replay-requires c = tt

@@ -17,7 +17,7 @@ pub overflow_cast-seen : goal.overflow_cast-seen
 overflow_cast-seen c = tt
 
 pub overflow_add-seen : goal.overflow_add-seen
-overflow_add-seen c = omega (arith, at_most_one c.holds_here.result)
+overflow_add-seen c = omega (arith, at_most_one c.holds-here.result)
 
 pub returns-then-seen-count : goal.returns-then-seen-count
 returns-then-seen-count c = search counting_stops

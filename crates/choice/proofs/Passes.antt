@@ -63,13 +63,13 @@ module _ {t outline : List ℕ} {n len count total i : ℕ} {work : List ℕ} (K
     unfolding survey_from
     survey_stops q = sym (S.rest ∙ rw (here K e h) (pick_false _ _ (sym (f ∙ kept-fits k.holds) ∙ not-true fits q)))
 
-    pub surveying_on : {own : ℕ} → not fits ≡ false → own ≡ registers_before work₁ a a.steps → own ≤ most_registers → Surveying t n len work₁ (total + own) (i + 1)
+    pub surveying_on : {own : ℕ} → fits ≡ true → own ≡ registers_before work₁ a a.steps → own ≤ most_registers → Surveying t n len work₁ (total + own) (i + 1)
     unfolding survey_from
     surveying_on q o small = record {
       few = next-few K e h;
       low = omega (arith, S.low);
       long = k.long ∙ S.long;
-      rest = S.rest ∙ rw (here K e h, o, kept-registers k.holds) (pick_true _ _ (sym (f ∙ kept-fits k.holds) ∙ not-false fits q));
+      rest = S.rest ∙ rw (here K e h, o, kept-registers k.holds) (pick_true _ _ (sym (f ∙ kept-fits k.holds) ∙ q));
     }
 
   pub survey_ends : count ≤ i → Registers total ≡ survey_of (alternatives_of t n)

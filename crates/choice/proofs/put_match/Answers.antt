@@ -27,7 +27,7 @@ close-p-requires c = search closing-fits
 pub loop-i-preserved : goal.loop-i-preserved
 loop-i-preserved c =
     joining_on c.requires.0 c.count_of-count.ensures c.loop-i.invariant
-    c.loop-i-test.true c.keep-kept.ensures c.root-text.ensures c.close-p.ensures c.next-register.ensures
+    c.loop-i-test.true c.keep-kept.ensures c.root_text-p.ensures c.close-p.ensures c.next_register-next.ensures
 
 pub put-requires : goal.put-requires
 put-requires c = search match_fits

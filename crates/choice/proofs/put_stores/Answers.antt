@@ -24,7 +24,7 @@ next_register-r-requires c = search now_placed
 pub loop-i-preserved : goal.loop-i-preserved
 loop-i-preserved c =
     storing_on c.requires.0 c.count_of-count.ensures c.loop-i.invariant
-    c.loop-i-test.true c.keep-kept.ensures c.stores-p.ensures c.next-register.ensures
+    c.loop-i-test.true c.keep-kept.ensures c.stores-p.ensures c.next_register-r.ensures
 
 pub returns : goal.returns
 returns c = search storing_ends

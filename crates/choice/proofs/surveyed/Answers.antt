@@ -21,7 +21,7 @@ returns-then-not-steps_fit c = search survey_stops
 pub loop-i-preserved : goal.loop-i-preserved
 loop-i-preserved c =
     surveying_on c.requires c.count_of-count.ensures c.loop-i.invariant c.loop-i-test.true
-    c.keep-kept.ensures c.steps_fit.ensures c.if-not-steps_fit.false c.registers-total.ensures.0 c.registers-total.ensures.1
+    c.keep-kept.ensures c.steps_fit.ensures c.if-not-steps_fit.false c.registers-total.ensures.value c.registers-total.ensures.small
 
 pub returns : goal.returns
 returns c = search survey_ends

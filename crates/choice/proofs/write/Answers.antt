@@ -4,10 +4,10 @@ use Rattle.choice.proofs.Passes.{numberable_again, room_for-stores, room_for_mat
 use Rattle.choice.proofs.write.Goals as goal
 
 pub put_stores-at-requires : goal.put_stores-at-requires
-put_stores-at-requires c = record { numberable = search rules; room = search room_for-stores }
+put_stores-at-requires c = (search rules, search room_for-stores)
 
 pub put_match-requires : goal.put_match-requires
-put_match-requires c = record { numberable = search numberable_again; room = search room_for_match }
+put_match-requires c = (search numberable_again, search room_for_match)
 
 pub returns : goal.returns
 returns c = search both_written

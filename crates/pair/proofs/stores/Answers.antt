@@ -12,5 +12,8 @@ stores-a-requires c = (search rules, search own_stores_room)
 pub slide_stores-p-requires : goal.slide_stores-p-requires
 slide_stores-p-requires c = (search pair_slid, search slide_stores_room)
 
+pub overflow_add-result : goal.overflow_add-result
+overflow_add-result c = search pair_next_fits
+
 pub returns : goal.returns
 returns c = search pair_stores_done

@@ -11,10 +11,10 @@ pub read_full-count-requires : goal.read_full-count-requires
 read_full-count-requires c = tt
 
 pub slice_bounds-input-end : goal.slice_bounds-input-end
-slice_bounds-input-end c = c.read_full.ensures
+slice_bounds-input-end c = c.read_full-count.ensures.0
 
 pub slice_bounds-replay-end : goal.slice_bounds-replay-end
-slice_bounds-replay-end c = c.read_full.ensures
+slice_bounds-replay-end c = c.read_full-count.ensures.1
 
 pub replay-requires : goal.replay-requires
 replay-requires c = tt

@@ -18,20 +18,18 @@ next_register-r-requires c = search row-placed
 
 pub pairs_texts-m-requires : goal.pairs_texts-m-requires
 pairs_texts-m-requires c =
-    let more = c.loop-i-test.true in (
-      (
+    let more = c.loop-i-test.true in record {
+      rowing = (
         rows-pairs c.row_of-row.ensures.rowed c.loop-i.invariant.numbers.rows.measured,
-        row_pairs_small c.loop-i.invariant.numbers more c.row_of-row.ensures.rowed c.next-register.ensures,
-      ),
-      (
-        row-ended c.loop-i.invariant.numbers more c.row_of-row.ensures.rowed c.next-register.ensures,
-        (c.loop-i.invariant.begun, row_texts-room c.loop-i.invariant more c.row_of-row.ensures.rowed c.next-register.ensures),
-      ),
-    )
+        row_pairs_small c.loop-i.invariant.numbers more c.row_of-row.ensures.rowed c.next_register-r.ensures,
+      );
+      behind = row-ended c.loop-i.invariant.numbers more c.row_of-row.ensures.rowed c.next_register-r.ensures;
+      room = (c.loop-i.invariant.begun, row_texts-room c.loop-i.invariant more c.row_of-row.ensures.rowed c.next_register-r.ensures);
+    }
 
 pub loop-i-preserved : goal.loop-i-preserved
 loop-i-preserved c =
-    all_texts_on c.loop-i.invariant c.loop-i-test.true c.row_of-row.ensures.rowed c.next-register.ensures c.pairs_texts-m.ensures
+    all_texts_on c.loop-i.invariant c.loop-i-test.true c.row_of-row.ensures.rowed c.next_register-r.ensures c.pairs_texts-m.ensures
     (search rules) (search rules)
 
 pub returns : goal.returns

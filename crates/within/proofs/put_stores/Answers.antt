@@ -21,14 +21,17 @@ next_register-r-requires c = search row-placed
 
 pub pairs_stores-m-requires : goal.pairs_stores-m-requires
 pairs_stores-m-requires c =
-    let more = c.loop-i-test.true in record { rowing = (
+    let more = c.loop-i-test.true in record {
+      rowing = (
         rows-pairs c.row_of-row.ensures.rowed c.loop-i.invariant.numbers.rows.measured,
-        row_pairs_small c.loop-i.invariant.numbers more c.row_of-row.ensures.rowed c.next-register.ensures,
-      ); room = row_pairs_room c.loop-i.invariant more c.row_of-row.ensures.rowed c.next-register.ensures c.stores-p.ensures }
+        row_pairs_small c.loop-i.invariant.numbers more c.row_of-row.ensures.rowed c.next_register-r.ensures,
+      );
+      room = row_pairs_room c.loop-i.invariant more c.row_of-row.ensures.rowed c.next_register-r.ensures c.stores-p.ensures;
+    }
 
 pub loop-i-preserved : goal.loop-i-preserved
 loop-i-preserved c =
-    all_stores_on c.loop-i.invariant c.loop-i-test.true c.row_of-row.ensures.rowed c.next-register.ensures c.stores-p.ensures
+    all_stores_on c.loop-i.invariant c.loop-i-test.true c.row_of-row.ensures.rowed c.next_register-r.ensures c.stores-p.ensures
     c.pairs_stores-m.ensures c.row_of-row.ensures.long (search rules)
 
 pub returns : goal.returns

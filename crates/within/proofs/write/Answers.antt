@@ -12,11 +12,11 @@ put_stores-a-requires c = record { numberable = (search still_numberable, search
 
 pub put_match-b-requires : goal.put_match-b-requires
 put_match-b-requires c =
-    record { numberable = (still_numberable c.requires.0 (search rules), search rules); room = match_has_room c.requires.0 _ c.requires.1 c.put_stores.ensures }
+    record { numberable = (still_numberable c.requires.0 (search rules), search rules); room = match_has_room c.requires.0 _ c.requires.1 c.put_stores-a.ensures }
 
 pub put-requires : goal.put-requires
 put-requires c = search end_has_room
 
 pub returns : goal.returns
 returns c =
-    listing-written c.requires.0 c.put_stores.ensures c.put_match.ensures c.put.ensures
+    listing-written c.requires.0 c.put_stores-a.ensures c.put_match-b.ensures c.put.ensures

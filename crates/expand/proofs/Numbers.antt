@@ -15,7 +15,7 @@ use Rattle.meaning.specs.declared.SeqHop.{SeqHop}
 use Rattle.meaning.specs.declared.SeqHop.TheVariants.{Fixed, AtLeast}
 use Rattle.meaning.specs.Tree.{finite, unbounded, node_at, unlimited, max_of}
 use Rattle.meaning.specs.Expression.{a·, any}
-use Rattle.meaning.specs.Alternative.{guard, and_opt, SeqAlt, alternative, joined, hops, copies, copies_from}
+use Rattle.meaning.specs.Alternative.{guard, and_opt, SeqAlt, alternative, joined, hops, copies_from}
 use Rattle.meaning.specs.Lowerable.{WellFormed}
 use Rattle.meaning.proofs.Counting.{length-hops}
 use Rattle.words.proofs.Taken.{both_hold}

@@ -7,7 +7,7 @@ use native.Mathlib.Omega.{arith}
 use lib.Dec.{eqb, leb}
 use lib.ListN.{length, get_or}
 use borrow.Author.Tests.{le-ltb, lt-leb}
-use Rattle.words.specs.Choice.{pick, pick_false, pick_case}
+use Rattle.words.specs.Choice.{pick_false, pick_case}
 use Rattle.correction.specs.Rows.{row_of, column_of}
 use Rattle.correction.specs.declared.Leaving.{Leaving}
 use Rattle.correction.specs.declared.Leaving.TheVariants.{Nothing, Kept, Replaced}

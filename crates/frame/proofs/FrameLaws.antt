@@ -8,7 +8,7 @@ use native.Mathlib.Decide.{dec_le}
 use lib.ListN.{length, get_or, set, take, replicate, length-replicate}
 use lib.Seq.{take_all, length-take-le}
 use borrow.Author.Tests.{lt-ltb, le-ltb, le-leb, lt-leb, eq-eqb, ne_eqb}
-use Rattle.words.specs.Choice.{pick, pick_true, pick_false}
+use Rattle.words.specs.Choice.{pick_true, pick_false}
 use Rattle.words.specs.Written.{written, Wrote}
 use Rattle.words.proofs.Laws.{Copying, copying_on, copying_ends, front-written, length-written, still_long}
 use Rattle.meaning.specs.Tick.{tick, next_after, stack_left}

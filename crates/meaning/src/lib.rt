@@ -5,7 +5,6 @@
 // two steps, Bool(0) and Bool(1), the second reached by Fixed(1).
 #![tactic(auto)]
 
-
 pub mod kind;
 pub mod operation;
 pub mod word;

@@ -1,6 +1,6 @@
 -- A pair that is kept, as the code meets it: its assignments, its delays and its text, part by part; and that these are the pair's of the
 -- alternatives that are kept. Each law has its premises in the order in which the code learns them.
-use mathlib.Core.Path.{◌≡◌, refl, sym, ap, ◌∙◌}
+use mathlib.Core.Path.{◌≡◌, refl, sym, ap}
 use mathlib.Core.List.{List, [], ◌∷◌, ◌++◌}
 use Prim.Native.Nat.{ℕ, ◌+◌, ◌*◌, ◌-◌, ◌<◌, ◌≤◌}
 use native.Mathlib.Omega.{arith}

@@ -1,7 +1,7 @@
 -- The words of a pair have the sizes that are counted, from any register on, and what is counted fits into 64 bits.
 use mathlib.Core.Path.{◌≡◌, refl, ap, ap₂, ◌∙◌}
 use mathlib.Core.List.{List, [], ◌∷◌, ◌++◌}
-use Prim.Native.Nat.{ℕ, ◌+◌, ◌*◌, ◌≤◌, ◌<◌}
+use Prim.Native.Nat.{ℕ, ◌+◌, ◌≤◌}
 use native.Mathlib.Omega.{arith}
 use mir.Val.{Fits}
 use mir.Syntax.{w64}
@@ -17,7 +17,7 @@ use Rattle.alternative.specs.Alternatives.{registers_in, stores_in, text_in}
 use Rattle.alternative.specs.Keeping.{Holds, kept_size}
 use Rattle.alternative.proofs.Laws.{kept-stores, kept_texts, as_long_stores, as_long_a_text}
 use Rattle.pair.specs.Pairs.{Fitted, delay_texts, joining, pair_stores, pair_text}
-use Rattle.pair.specs.Sizes.{size, size_in, pair_size_of, pair_size, longest_text}
+use Rattle.pair.specs.Sizes.{size_in, pair_size_of, pair_size, longest_text}
 use Rattle.pair.proofs.Delays.{length-ored}
 
 -- One alternative.

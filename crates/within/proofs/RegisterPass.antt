@@ -1,6 +1,6 @@
 -- The pass that counts registers, as the code meets it: before each pair, and before each row, the rest of them gives what all give.
 use mathlib.Core.Path.{◌≡◌, sym, ap, ◌∙◌}
-use mathlib.Core.List.{List, ◌∷◌}
+use mathlib.Core.List.{List}
 use Prim.Native.Nat.{ℕ, ◌+◌, ◌*◌, ◌-◌, ◌<◌, ◌≤◌}
 use native.Mathlib.Omega.{arith}
 use mir.Val.{Fits}

@@ -1,5 +1,4 @@
 -- `keep` puts the steps, then the guard behind them; both find room, and are held.
-use borrow.Author.Rules.{rules}
 use Rattle.alternative.proofs.Keeping.{its_number, room_for-steps, room_for-guard, is_kept}
 use Rattle.alternative.proofs.keep.Goals as goal
 

@@ -1,5 +1,4 @@
 -- `size` takes the words counted for a kept alternative for those of its text and of its assignments.
-use borrow.Author.Rules.{rules}
 use Rattle.alternative.proofs.Laws.{sized, sized_small}
 use Rattle.alternative.proofs.size.Goals as goal
 

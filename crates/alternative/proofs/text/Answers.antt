@@ -1,5 +1,4 @@
 -- `text` puts the text after the last step, whose registers are the last before `next`.
-use borrow.Author.Rules.{rules}
 use Rattle.alternative.proofs.LastStep.{own_fit, own_below, last-ready, text-room, text-written}
 use Rattle.alternative.proofs.text.Goals as goal
 

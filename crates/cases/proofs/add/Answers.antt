@@ -1,5 +1,4 @@
 -- A word without bytes, no room, and a number that is put.
-use borrow.Author.Rules.{rules}
 use Rattle.cases.proofs.Laws.{no_word, no_room, number_put}
 use Rattle.cases.proofs.add.Goals as goal
 

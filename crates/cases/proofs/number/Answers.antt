@@ -1,8 +1,5 @@
 -- The loop takes one byte of the word after the other.
-use borrow.Author.Rules.{rules}
-use Prim.Native.Nat.{◌-◌}
-use lib.ListN.{length}
-use Rattle.cases.proofs.Laws.{Valuing, valuing_begins, valuing_on, valuing_ends}
+use Rattle.cases.proofs.Laws.{valuing_begins, valuing_on, valuing_ends}
 use Rattle.cases.proofs.number.Goals as goal
 
 pub loop-i-init : goal.loop-i-init

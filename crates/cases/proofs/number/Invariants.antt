@@ -1,8 +1,7 @@
 -- The loop takes one byte of the word after the other.
-use borrow.Author.Rules.{rules}
 use Prim.Native.Nat.{◌-◌}
 use lib.ListN.{length}
-use Rattle.cases.proofs.Laws.{Valuing, valuing_begins, valuing_on, valuing_ends}
+use Rattle.cases.proofs.Laws.{Valuing}
 use Rattle.cases.proofs.number.Given as goal
 
 abbrev pub invariant-loop-i : goal.invariant-loop-i

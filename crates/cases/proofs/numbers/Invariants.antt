@@ -1,8 +1,7 @@
 -- The loop reads a word up to the blank behind it, and puts its number.
-use borrow.Author.Rules.{rules}
 use Prim.Native.Nat.{◌-◌}
 use lib.ListN.{length}
-use Rattle.cases.proofs.Laws.{Reading, reading_begins, reading_on, reading_ends}
+use Rattle.cases.proofs.Laws.{Reading}
 use Rattle.cases.proofs.numbers.Given as goal
 
 abbrev pub invariant-loop-from : goal.invariant-loop-from

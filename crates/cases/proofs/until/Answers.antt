@@ -1,8 +1,6 @@
 -- The loop passes the bytes that are others.
 use borrow.Author.Rules.{rules}
-use Prim.Native.Nat.{◌-◌}
-use lib.ListN.{length}
-use Rattle.cases.proofs.Laws.{Seeking, seeking_begins, seeking_on, seeking_finds, seeking_ends}
+use Rattle.cases.proofs.Laws.{seeking_begins, seeking_on, seeking_finds, seeking_ends}
 use Rattle.cases.proofs.until.Goals as goal
 
 pub loop-i-init : goal.loop-i-init

@@ -1,5 +1,4 @@
 -- A byte that is no digit, a number that would be too large, and any other digit.
-use borrow.Author.Rules.{rules}
 use Rattle.words.specs.Choice.{tests}
 use Rattle.cases.specs.Lines.{with_digit}
 use Rattle.cases.proofs.Laws.{digit_too_many, digit_more}

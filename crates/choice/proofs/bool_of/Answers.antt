@@ -1,6 +1,5 @@
 -- `bool_of` tells a Bool term from the others, variant by variant.
 use Rattle.choice.specs.RootText.{bool_of}
-use borrow.Author.Rules.{rules}
 use Rattle.choice.proofs.bool_of.Goals as goal
 
 pub returns-in-Bool : goal.returns-in-Bool

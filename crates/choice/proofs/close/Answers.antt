@@ -1,6 +1,5 @@
 -- `close` puts nothing, `any`, or `any or`, by how many texts there are and which it is.
 use Rattle.choice.proofs.Closings.{alone_closed, room_for-any, leading_closed, room_for_or, following_closed}
-use borrow.Author.Rules.{rules}
 use Rattle.choice.proofs.close.Goals as goal
 
 pub returns-then-count-eq1 : goal.returns-then-count-eq1

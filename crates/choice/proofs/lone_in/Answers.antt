@@ -1,5 +1,4 @@
 -- `lone_in` makes the tests of `lone_in`: one step, no guard, a Bool.
-use borrow.Author.Rules.{rules}
 use Rattle.choice.proofs.RootTexts.{lone-step, lone_but_guarded, several_steps}
 use Rattle.choice.proofs.lone_in.Goals as goal
 

@@ -1,9 +1,6 @@
 -- `put_match` puts the texts one by one; what is left of them is said in `Joining`.
-use borrow.Author.Rules.{rules}
-use Prim.Native.Nat.{◌-◌}
-use lib.ListN.{length}
 use Rattle.alternative.proofs.Keeping.{outline_is_there, keepable_again}
-use Rattle.choice.proofs.Passes.{among, now_placed, now_ended, Joining, joining-begins, text-fits, closing-fits, joining_on, match_fits, joining-ends}
+use Rattle.choice.proofs.Passes.{among, now_placed, now_ended, joining-begins, text-fits, closing-fits, joining_on, match_fits, joining-ends}
 use Rattle.choice.proofs.put_match.Goals as goal
 
 pub count_of-count-requires : goal.count_of-count-requires

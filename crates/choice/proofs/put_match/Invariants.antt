@@ -1,9 +1,7 @@
 -- `put_match` puts the texts one by one; what is left of them is said in `Joining`.
-use borrow.Author.Rules.{rules}
 use Prim.Native.Nat.{◌-◌}
 use lib.ListN.{length}
-use Rattle.alternative.proofs.Keeping.{outline_is_there, keepable_again}
-use Rattle.choice.proofs.Passes.{among, now_placed, now_ended, Joining, joining-begins, text-fits, closing-fits, joining_on, match_fits, joining-ends}
+use Rattle.choice.proofs.Passes.{Joining}
 use Rattle.choice.proofs.put_match.Given as goal
 
 abbrev pub invariant-loop-i : goal.invariant-loop-i

@@ -1,9 +1,6 @@
 -- `put_stores` puts the assignments alternative by alternative; what is left of them is said in `Storing`.
-use borrow.Author.Rules.{rules}
-use Prim.Native.Nat.{◌-◌}
-use lib.ListN.{length}
 use Rattle.alternative.proofs.Keeping.{outline_is_there, keepable_again}
-use Rattle.choice.proofs.Passes.{among, now_placed, Storing, storing_begins, stores-fit, storing_on, storing_ends}
+use Rattle.choice.proofs.Passes.{among, now_placed, storing_begins, stores-fit, storing_on, storing_ends}
 use Rattle.choice.proofs.put_stores.Goals as goal
 
 pub count_of-count-requires : goal.count_of-count-requires

@@ -1,9 +1,6 @@
 -- `surveyed` goes through the alternatives up to one that 12 refuses; what is left of them is said in `Surveying`.
-use borrow.Author.Rules.{rules}
-use Prim.Native.Nat.{◌-◌}
-use lib.ListN.{length}
 use Rattle.alternative.proofs.Keeping.{outline_is_there, keepable_again}
-use Rattle.choice.proofs.Passes.{among, Surveying, surveying_begins, survey_stops, surveying_on, survey_ends}
+use Rattle.choice.proofs.Passes.{among, surveying_begins, survey_stops, surveying_on, survey_ends}
 use Rattle.choice.proofs.surveyed.Goals as goal
 
 pub count_of-count-requires : goal.count_of-count-requires

@@ -1,9 +1,6 @@
 -- `word_count` adds the words alternative by alternative; what is left of them is said in `Sizing`.
-use borrow.Author.Rules.{rules}
-use Prim.Native.Nat.{◌-◌}
-use lib.ListN.{length}
 use Rattle.alternative.proofs.Keeping.{outline_is_there, keepable_again}
-use Rattle.choice.proofs.Passes.{among, now_countable, Sizing, sizing_begins, sizing_on, sizing_ends}
+use Rattle.choice.proofs.Passes.{among, now_countable, sizing_begins, sizing_on, sizing_ends}
 use Rattle.choice.proofs.word_count.Goals as goal
 
 pub count_of-count-requires : goal.count_of-count-requires

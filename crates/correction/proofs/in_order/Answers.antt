@@ -1,8 +1,5 @@
 -- `in_order` decides `ordered`: the loop's rest, from the entry that it looks at.
-use borrow.Author.Rules.{rules}
-use Prim.Native.Nat.{◌-◌}
-use lib.ListN.{length}
-use Rattle.correction.proofs.MapLaws.{Checking, checking_begins, column_outside, too_early, checking_on, checking_ends}
+use Rattle.correction.proofs.MapLaws.{checking_begins, column_outside, too_early, checking_on, checking_ends}
 use Rattle.correction.proofs.in_order.Goals as goal
 
 pub loop-i-init : goal.loop-i-init

@@ -1,8 +1,7 @@
 -- `in_order` decides `ordered`: the loop's rest, from the entry that it looks at.
-use borrow.Author.Rules.{rules}
 use Prim.Native.Nat.{◌-◌}
 use lib.ListN.{length}
-use Rattle.correction.proofs.MapLaws.{Checking, checking_begins, column_outside, too_early, checking_on, checking_ends}
+use Rattle.correction.proofs.MapLaws.{Checking}
 use Rattle.correction.proofs.in_order.Given as goal
 
 abbrev pub invariant-loop-i : goal.invariant-loop-i

@@ -1,6 +1,5 @@
 -- `lookup` says whether the map names the pixel, from what was reached before it.
 use Rattle.correction.proofs.MapLaws.{at_the_end, at-another, at_its_entry}
-use borrow.Author.Rules.{rules}
 use Rattle.correction.proofs.lookup.Goals as goal
 
 pub returns-then-map-reached : goal.returns-then-map-reached

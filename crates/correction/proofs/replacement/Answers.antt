@@ -2,7 +2,6 @@
 use Rattle.words.specs.Choice.{tests}
 use Rattle.correction.specs.Rows.{replacement_by}
 use Rattle.correction.proofs.RowLaws.{mean_of}
-use borrow.Author.Rules.{rules}
 use Rattle.correction.proofs.replacement.Goals as goal
 
 pub returns-then-row-eq0 : goal.returns-then-row-eq0

@@ -1,6 +1,5 @@
 -- `step` is the definition's: a pixel comes in, and the one of two ticks before leaves.
 use Rattle.correction.proofs.RowLaws.{length-kept, nothing-leaves, the_one_before_leaves}
-use borrow.Author.Rules.{rules}
 use Rattle.correction.proofs.step.Goals as goal
 
 pub returns-then-tick-lt-DELAY : goal.returns-then-tick-lt-DELAY

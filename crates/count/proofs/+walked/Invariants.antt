@@ -1,11 +1,8 @@
 -- The recursion on the node number: the operands that are visited one after the other, a refusal of one handed up, then the node's own answer and word.
-use borrow.Author.Rules.{rules}
-use Rattle.outline.proofs.Laws.{where_refused, refusal_promises_nothing}
 use Rattle.count.specs.Nodes.{visits}
 use Rattle.meaning.specs.Tree.{node_at}
-use Rattle.count.proofs.Walking.{answer_is_small, too_deep, node-inside, node-few}
-use Rattle.count.proofs.Joining.{Joining, joining-begins, operand-lower, operand-countable, operand_refused, joining_on, answerable, joined_small, answer_done, answer-noted}
-use Prim.Native.Nat.{ℕ, ◌-◌, ◌<◌}
+use Rattle.count.proofs.Joining.{Joining}
+use Prim.Native.Nat.{◌-◌}
 use Rattle.count.proofs.+walked.Given as goal
 
 abbrev pub decreases-walked : goal.decreases-walked

@@ -1,7 +1,6 @@
 -- Each return is one case of the bounds.
 use Rattle.words.specs.Choice.{tests}
 use Rattle.count.specs.Capped.{capped}
-use borrow.Author.Rules.{rules}
 use Rattle.count.proofs.capped.Goals as goal
 
 pub returns-then-alternatives-gt256 : goal.returns-then-alternatives-gt256

@@ -1,7 +1,5 @@
 -- The loop has made i copies more than the base.
-use borrow.Author.Rules.{rules}
-use Prim.Native.Nat.{◌-◌}
-use Rattle.count.proofs.Leaves.{Copying, copying_begins, copying_on, copying_ends}
+use Rattle.count.proofs.Leaves.{copying_begins, copying_on, copying_ends}
 use Rattle.count.proofs.copied.Goals as goal
 
 pub loop-i-init : goal.loop-i-init

@@ -1,7 +1,6 @@
 -- The loop has made i copies more than the base.
-use borrow.Author.Rules.{rules}
 use Prim.Native.Nat.{◌-◌}
-use Rattle.count.proofs.Leaves.{Copying, copying_begins, copying_on, copying_ends}
+use Rattle.count.proofs.Leaves.{Copying}
 use Rattle.count.proofs.copied.Given as goal
 
 abbrev pub invariant-loop-i : goal.invariant-loop-i

@@ -1,6 +1,5 @@
 -- 7 is told by the flag, 10 and 11 by the counts.
 use Rattle.count.proofs.Leaves.{covered_refused, covered_made}
-use borrow.Author.Rules.{rules}
 use Rattle.count.proofs.covered.Goals as goal
 
 pub returns-then-not-s : goal.returns-then-not-s

@@ -1,6 +1,5 @@
 -- The second operand of a delay, that of a throughout, or the first of the others.
 use Rattle.count.proofs.Leaves.{second_operand, covered-operand, first_operand}
-use borrow.Author.Rules.{rules}
 use Rattle.count.proofs.operand.Goals as goal
 
 pub returns-then-k-eq1 : goal.returns-then-k-eq1

@@ -2,7 +2,6 @@
 use Rattle.words.specs.Choice.{tests}
 use Rattle.count.specs.Nodes.{over_node}
 use Rattle.count.proofs.Leaves.{over_made}
-use borrow.Author.Rules.{rules}
 use Rattle.count.proofs.over_node.Goals as goal
 
 pub returns-then-v-gt256 : goal.returns-then-v-gt256

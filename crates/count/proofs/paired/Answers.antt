@@ -1,7 +1,6 @@
 -- 9 is told by the flags of both, 10 by the product and 11 by the sum.
 use Rattle.count.proofs.Bounds.{pairs-fit}
 use Rattle.count.proofs.Leaves.{paired_refused, paired_made}
-use borrow.Author.Rules.{rules}
 use Rattle.count.proofs.paired.Goals as goal
 
 pub returns-then-not-both : goal.returns-then-not-both

@@ -1,7 +1,6 @@
 -- The products fit 64 bits, and are capped.
 use Rattle.count.proofs.Leaves.{product_made}
 use Rattle.count.proofs.Bounds.{pairs-fit, left_entries_fit, right_entries_fit, entries_fit}
-use borrow.Author.Rules.{rules}
 use Rattle.count.proofs.product.Goals as goal
 
 pub overflow_mul-entries : goal.overflow_mul-entries

@@ -2,7 +2,6 @@
 use Rattle.words.specs.Choice.{tests}
 use Rattle.count.specs.Nodes.{repeated}
 use Rattle.count.proofs.Leaves.{repeated_made}
-use borrow.Author.Rules.{rules}
 use Rattle.count.proofs.repeated.Goals as goal
 
 pub returns-then-v-gt256 : goal.returns-then-v-gt256

@@ -1,7 +1,6 @@
 -- One entry for each full 16 words, at most 65,536.
 use Rattle.words.specs.Choice.{tests}
 use Rattle.meaning.specs.Refusals.{room_of}
-use borrow.Author.Rules.{rules}
 use Rattle.count.proofs.room_of.Goals as goal
 
 pub returns-then-room-gt65536 : goal.returns-then-room-gt65536

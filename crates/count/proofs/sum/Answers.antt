@@ -1,6 +1,5 @@
 -- The sums fit 64 bits, and are capped.
 use Rattle.count.proofs.Leaves.{sum_made}
-use borrow.Author.Rules.{rules}
 use Rattle.count.proofs.sum.Goals as goal
 
 pub returns : goal.returns

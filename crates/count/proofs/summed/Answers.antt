@@ -1,7 +1,5 @@
 -- The loop has summed up i lists of copies.
-use borrow.Author.Rules.{rules}
-use Prim.Native.Nat.{◌-◌}
-use Rattle.count.proofs.Leaves.{Summing, summing_begins, summing_on, summing_ends}
+use Rattle.count.proofs.Leaves.{summing_begins, summing_on, summing_ends}
 use Rattle.count.proofs.summed.Goals as goal
 
 pub loop-i-init : goal.loop-i-init

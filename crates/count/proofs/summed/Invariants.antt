@@ -1,7 +1,6 @@
 -- The loop has summed up i lists of copies.
-use borrow.Author.Rules.{rules}
 use Prim.Native.Nat.{◌-◌}
-use Rattle.count.proofs.Leaves.{Summing, summing_begins, summing_on, summing_ends}
+use Rattle.count.proofs.Leaves.{Summing}
 use Rattle.count.proofs.summed.Given as goal
 
 abbrev pub invariant-loop-i : goal.invariant-loop-i

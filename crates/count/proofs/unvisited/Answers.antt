@@ -2,7 +2,6 @@
 use Rattle.words.specs.Choice.{tests}
 use Rattle.count.specs.Nodes.{unvisited}
 use Rattle.count.proofs.Leaves.{no_repetition_made, operand-inside, operand-few, over_node_made}
-use borrow.Author.Rules.{rules}
 use Rattle.count.proofs.unvisited.Goals as goal
 
 pub returns-then-v-eq-WITHIN : goal.returns-then-v-eq-WITHIN

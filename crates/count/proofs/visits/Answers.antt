@@ -1,6 +1,5 @@
 -- The kind tells how many operands are visited.
 use Rattle.count.proofs.Leaves.{visits_both, visits-covered, visits-repeated, visits-none}
-use borrow.Author.Rules.{rules}
 use Rattle.count.proofs.visits.Goals as goal
 
 pub returns-then-v-eq-DELAY : goal.returns-then-v-eq-DELAY

@@ -1,7 +1,6 @@
 -- One alternative more where the minimum is 0.
 use Rattle.words.specs.Choice.{tests}
 use Rattle.count.specs.Capped.{with_empty}
-use borrow.Author.Rules.{rules}
 use Rattle.count.proofs.with_empty.Goals as goal
 
 pub returns-then-min-eq0 : goal.returns-then-min-eq0

@@ -1,6 +1,5 @@
 -- `activation` puts constant one for the first term, else what its hop reaches it with.
 use Rattle.current.proofs.Walk.{first_activation_room, first_activation_done}
-use borrow.Author.Rules.{rules}
 use Rattle.current.proofs.activation.Goals as goal
 
 pub put-requires : goal.put-requires

@@ -1,6 +1,6 @@
 -- `current` goes back over the steps that keep their text, and forth again; where it stands is said in `Back`.
 use borrow.Author.Rules.{rules}
-use Rattle.current.proofs.Walk.{Back, back_begins, back_piece, back_later, back_less, back_room, back_behind, back_on, back_stops, back_base, back_tail, back_rest, back_done}
+use Rattle.current.proofs.Walk.{back_begins, back_piece, back_later, back_less, back_room, back_behind, back_on, back_stops, back_base, back_tail, back_rest, back_done}
 use Rattle.current.proofs.current.Goals as goal
 
 pub loop-previous-init : goal.loop-previous-init

@@ -1,6 +1,5 @@
 -- `goes_on` makes the tests of `goes_on`.
 use Rattle.current.proofs.Walk.{on_zero, on_kept, on_anew}
-use borrow.Author.Rules.{rules}
 use Rattle.current.proofs.goes_on.Goals as goal
 
 pub returns-then-k-eq0 : goal.returns-then-k-eq0

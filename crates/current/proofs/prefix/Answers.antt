@@ -1,6 +1,5 @@
 -- `prefix` puts the prefix of the step that it reads.
 use Rattle.current.proofs.Walk.{read_prefix_room, read_prefix_done, piece_later}
-use borrow.Author.Rules.{rules}
 use Rattle.current.proofs.prefix.Goals as goal
 
 pub step_prefix-requires : goal.step_prefix-requires

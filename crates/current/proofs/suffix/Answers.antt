@@ -1,6 +1,5 @@
 -- `suffix` puts the suffix of the step that it reads.
 use Rattle.current.proofs.Walk.{read_suffix_room, read_suffix_done, piece_later}
-use borrow.Author.Rules.{rules}
 use Rattle.current.proofs.suffix.Goals as goal
 
 pub step_suffix-requires : goal.step_suffix-requires

@@ -1,7 +1,6 @@
 -- `suffixes` puts one suffix after the other; what is left of them is said in `Forth`.
-use Prim.Native.Nat.{◌-◌}
 use borrow.Author.Rules.{rules}
-use Rattle.current.proofs.Walk.{Forth, forth_begins, forth_among, forth_high, forth_piece, forth_room, forth_on, forth_ends}
+use Rattle.current.proofs.Walk.{forth_begins, forth_among, forth_high, forth_piece, forth_room, forth_on, forth_ends}
 use Rattle.current.proofs.suffixes.Goals as goal
 
 pub loop-i-init : goal.loop-i-init

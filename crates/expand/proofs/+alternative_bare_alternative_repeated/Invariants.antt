@@ -1,11 +1,7 @@
 -- `alternative`, `bare_alternative` and `repeated` write the words of the numbered alternative, by the node number; copies are
 -- written one after the other.
-use borrow.Author.Rules.{rules}
 use Prim.Native.Nat.{◌+◌, ◌*◌}
-use Rattle.expand.proofs.ByKind.{operand-inside}
-use Rattle.expand.proofs.Numbers.{node-inside, bare-below, bare-numbered, delay_counts, left_below, right-below, left-numbered, right-numbered, guarded-below, guarded-numbered, copied, copies-counts, block_below, block_numbered, copy_below, copy_inside, copy_some, copy_few, copy_numbered}
-use Rattle.expand.proofs.Written.{bare-room, bare-written, atom-room, atom-written, left-room, right-room, delay-written, guarded-room, throughout-written, block_room, block_written, single-room, single-written, Repeating, repeating_begins, copy_room, repeating_on, repeating_ends}
-use Prim.Native.Nat.{ℕ, ◌<◌}
+use Rattle.expand.proofs.Written.{Repeating}
 use Rattle.expand.proofs.+alternative_bare_alternative_repeated.Given as goal
 
 abbrev pub decreases-repeated : goal.decreases-repeated

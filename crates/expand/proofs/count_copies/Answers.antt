@@ -1,7 +1,5 @@
 -- `count_copies` multiplies once for each copy after the first.
-use borrow.Author.Rules.{rules}
-use Prim.Native.Nat.{◌-◌}
-use Rattle.expand.proofs.Arithmetic.{Multiplying, multiplying_begins, multiplying_on, multiplying_fits, multiplying_ends}
+use Rattle.expand.proofs.Arithmetic.{multiplying_begins, multiplying_on, multiplying_fits, multiplying_ends}
 use Rattle.expand.proofs.count_copies.Goals as goal
 
 pub loop-j-init : goal.loop-j-init

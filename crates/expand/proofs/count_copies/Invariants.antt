@@ -1,7 +1,6 @@
 -- `count_copies` multiplies once for each copy after the first.
-use borrow.Author.Rules.{rules}
 use Prim.Native.Nat.{◌-◌}
-use Rattle.expand.proofs.Arithmetic.{Multiplying, multiplying_begins, multiplying_on, multiplying_fits, multiplying_ends}
+use Rattle.expand.proofs.Arithmetic.{Multiplying}
 use Rattle.expand.proofs.count_copies.Given as goal
 
 abbrev pub invariant-loop-j : goal.invariant-loop-j

@@ -1,7 +1,5 @@
 -- `find_block` walks the blocks from the front and leaves each that ends before the number.
-use borrow.Author.Rules.{rules}
-use Prim.Native.Nat.{◌-◌}
-use Rattle.expand.proofs.Arithmetic.{Finding, finding_begins, finding_here, finding_on, finding_fits, finding_last}
+use Rattle.expand.proofs.Arithmetic.{finding_begins, finding_here, finding_on, finding_fits, finding_last}
 use Rattle.expand.proofs.find_block.Goals as goal
 
 pub loop-at-init : goal.loop-at-init

@@ -1,7 +1,6 @@
 -- `find_block` walks the blocks from the front and leaves each that ends before the number.
-use borrow.Author.Rules.{rules}
 use Prim.Native.Nat.{◌-◌}
-use Rattle.expand.proofs.Arithmetic.{Finding, finding_begins, finding_here, finding_on, finding_fits, finding_last}
+use Rattle.expand.proofs.Arithmetic.{Finding}
 use Rattle.expand.proofs.find_block.Given as goal
 
 abbrev pub invariant-loop-at : goal.invariant-loop-at

@@ -1,7 +1,6 @@
 -- `kth_hop`: at least min for $, else min + k.
 use Rattle.words.specs.Choice.{tests}
 use Rattle.expand.specs.ByNumber.{hop_at}
-use borrow.Author.Rules.{rules}
 use Rattle.expand.proofs.kth_hop.Goals as goal
 
 pub returns-then-max-eq-UNLIMITED : goal.returns-then-max-eq-UNLIMITED

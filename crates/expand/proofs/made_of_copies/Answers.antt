@@ -1,6 +1,5 @@
 -- `made_of_copies` makes the tests of `is_copies`.
 use Rattle.expand.proofs.Arithmetic.{copies-past_empty, no_copies}
-use borrow.Author.Rules.{rules}
 use Rattle.expand.proofs.made_of_copies.Goals as goal
 
 pub returns-then-is_repeated : goal.returns-then-is_repeated

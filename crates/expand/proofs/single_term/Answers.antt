@@ -1,6 +1,5 @@
 -- `single_term` makes the tests of `single_term`, kind by kind.
 use Rattle.expand.proofs.ByKind.{operand_read_inside, operand_read_few, goto_term, nonconsec_term, empty_term, run_term}
-use borrow.Author.Rules.{rules}
 use Rattle.expand.proofs.single_term.Goals as goal
 
 pub read-b-requires : goal.read-b-requires

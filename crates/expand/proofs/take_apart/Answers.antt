@@ -1,6 +1,5 @@
 -- `take_apart` divides by the right's count, then by the left's.
 use Rattle.expand.specs.ByNumber.{parts_of}
-use borrow.Author.Rules.{rules}
 use Rattle.expand.proofs.take_apart.Goals as goal
 
 pub returns : goal.returns

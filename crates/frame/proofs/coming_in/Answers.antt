@@ -1,6 +1,5 @@
 -- `coming_in` is the picture's pixel.
 use Rattle.frame.proofs.FrameLaws.{after_the_frame, during_the_frame}
-use borrow.Author.Rules.{rules}
 use Rattle.frame.proofs.coming_in.Goals as goal
 
 pub returns-then-tick-ge-FRAME : goal.returns-then-tick-ge-FRAME

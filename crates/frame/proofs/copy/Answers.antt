@@ -1,9 +1,6 @@
 -- `copy` leaves what it copied.
-use Prim.Native.Nat.{◌-◌}
-use lib.ListN.{length}
-use Rattle.words.proofs.Laws.{Copying, copying_begins}
+use Rattle.words.proofs.Laws.{copying_begins}
 use Rattle.frame.proofs.FrameLaws.{copy_on, copy_ends}
-use borrow.Author.Rules.{rules}
 use Rattle.frame.proofs.copy.Goals as goal
 
 pub loop-i-init : goal.loop-i-init

@@ -1,9 +1,7 @@
 -- `copy` leaves what it copied.
 use Prim.Native.Nat.{◌-◌}
 use lib.ListN.{length}
-use Rattle.words.proofs.Laws.{Copying, copying_begins}
-use Rattle.frame.proofs.FrameLaws.{copy_on, copy_ends}
-use borrow.Author.Rules.{rules}
+use Rattle.words.proofs.Laws.{Copying}
 use Rattle.frame.proofs.copy.Given as goal
 
 abbrev pub invariant-loop-i : goal.invariant-loop-i

@@ -1,7 +1,5 @@
 -- `watch` says the verdict: at each tick what is left to say is the whole, and the map is reached as `step` asks.
-use Prim.Native.Nat.{◌-◌}
-use Rattle.frame.proofs.FrameLaws.{Watching, watching_begins, refused_there, alarm_there, watching_on, quiet_there}
-use borrow.Author.Rules.{rules}
+use Rattle.frame.proofs.FrameLaws.{watching_begins, refused_there, alarm_there, watching_on, quiet_there}
 use Rattle.frame.proofs.watch.Goals as goal
 
 pub loop-tick-init : goal.loop-tick-init

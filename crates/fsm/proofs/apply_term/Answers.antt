@@ -3,7 +3,6 @@ use Rattle.fsm.specs.Stores.{term_store_words}
 use Rattle.step_text.specs.Text.{term_registers}
 use Rattle.words.proofs.Laws.{nothing_written}
 use Rattle.fsm.proofs.Laws.{stores_in, stores-room, starts, starts_extended}
-use borrow.Author.Rules.{rules}
 use Rattle.fsm.proofs.apply_term.Goals as goal
 
 pub goto_fsm-requires : goal.goto_fsm-requires

@@ -1,6 +1,5 @@
 -- `consec_run_fsm` puts the activation, then the stores of one register after the other; what is left of them is said in `Running`.
-use Prim.Native.Nat.{◌-◌}
-use Rattle.fsm.proofs.Laws.{Running, running_begins, running_on, run_room, running_room, top-room, run_done}
+use Rattle.fsm.proofs.Laws.{running_begins, running_on, run_room, running_room, top-room, run_done}
 use borrow.Author.Rules.{rules}
 use Rattle.fsm.proofs.consec_run_fsm.Goals as goal
 

@@ -1,7 +1,6 @@
 -- `consec_run_fsm` puts the activation, then the stores of one register after the other; what is left of them is said in `Running`.
 use Prim.Native.Nat.{◌-◌}
-use Rattle.fsm.proofs.Laws.{Running, running_begins, running_on, run_room, running_room, top-room, run_done}
-use borrow.Author.Rules.{rules}
+use Rattle.fsm.proofs.Laws.{Running}
 use Rattle.fsm.proofs.consec_run_fsm.Given as goal
 
 abbrev pub invariant-loop-i : goal.invariant-loop-i

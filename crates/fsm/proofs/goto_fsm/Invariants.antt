@@ -1,7 +1,6 @@
 -- `goto_fsm` puts the first register's store, the second one's and then the others'; what is left of them is said in `Staging`.
 use Prim.Native.Nat.{◌-◌}
-use Rattle.fsm.proofs.Laws.{fewer, fewer_than_all, Staging, staging_begins, staging_on, first_room, only_first, second_room, later-room, goto_done}
-use borrow.Author.Rules.{rules}
+use Rattle.fsm.proofs.Laws.{Staging}
 use Rattle.fsm.proofs.goto_fsm.Given as goal
 
 abbrev pub invariant-loop-i : goal.invariant-loop-i

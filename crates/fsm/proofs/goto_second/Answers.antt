@@ -1,6 +1,5 @@
 -- `goto_second` puts the store of the second register around the activation.
 use Rattle.fsm.proofs.Laws.{second_done}
-use borrow.Author.Rules.{rules}
 use Rattle.fsm.proofs.goto_second.Goals as goal
 
 pub returns : goal.returns

@@ -1,6 +1,5 @@
 -- `put_condition` puts the atom, then `any`.
 use Rattle.guards.proofs.Laws.{condition_put}
-use borrow.Author.Rules.{rules}
 use Rattle.guards.proofs.put_condition.Goals as goal
 
 pub returns : goal.returns

@@ -1,10 +1,7 @@
 -- The loop adds a stretch after each run of the left.
-use borrow.Author.Rules.{rules}
-use Prim.Native.Nat.{◌+◌, ◌-◌, ◌*◌, ◌≤◌}
 use native.Mathlib.Omega.{arith}
-use lib.ListN.{length}
 use Rattle.runs.proofs.Laws.{row_inside}
-use Rattle.joined_runs.proofs.Leading.{Leading, leading_begins, leading_on, leading_past, leading_ends}
+use Rattle.joined_runs.proofs.Leading.{leading_begins, leading_on, leading_past, leading_ends}
 use Rattle.joined_runs.proofs.add_ahead.Goals as goal
 use Rattle.joined_runs.proofs.add_ahead.Goals.{then-tables-place-eq1, else-tables-place-eq1}
 

@@ -1,8 +1,5 @@
 -- The left row, moved by one, is a row of the points from which the right is reached.
-use borrow.Author.Rules.{rules}
-use Prim.Native.Nat.{◌+◌, ◌*◌, ◌≤◌}
 use native.Mathlib.Omega.{arith}
-use lib.ListN.{length}
 use Rattle.runs.proofs.Laws.{row_inside}
 use Rattle.joined_runs.proofs.Delays.{reached_overlapped}
 use Rattle.joined_runs.proofs.add_overlapped.Goals as goal

@@ -1,5 +1,4 @@
 -- The ends of both kinds are added, one kind after the other.
-use borrow.Author.Rules.{rules}
 use Rattle.joined_runs.proofs.Delays.{delayed_overlapped, delayed_later}
 use Rattle.joined_runs.proofs.delayed.Goals as goal
 

@@ -1,8 +1,6 @@
 -- The loop looks at the rows one after another, each below the lowest end so far.
-use borrow.Author.Rules.{rules}
 use Prim.Native.Nat.{◌-◌}
-use native.Mathlib.Omega.{arith}
-use Rattle.joined_runs.proofs.Lowering.{Lowering, lowering_begins, lowering_inside, lowering_on, lowering_ends}
+use Rattle.joined_runs.proofs.Lowering.{Lowering}
 use Rattle.joined_runs.proofs.earliest.Given as goal
 
 abbrev pub invariant-loop-k : goal.invariant-loop-k

@@ -1,7 +1,5 @@
 -- The loop adds one end after another.
-use borrow.Author.Rules.{rules}
-use Prim.Native.Nat.{◌-◌}
-use Rattle.joined_runs.proofs.Leading.{Filling, filling_begins, filling_on, filling_ends}
+use Rattle.joined_runs.proofs.Leading.{filling_begins, filling_on, filling_ends}
 use Rattle.joined_runs.proofs.fill.Goals as goal
 
 pub loop-j-init : goal.loop-j-init

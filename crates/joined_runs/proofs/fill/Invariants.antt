@@ -1,7 +1,6 @@
 -- The loop adds one end after another.
-use borrow.Author.Rules.{rules}
 use Prim.Native.Nat.{◌-◌}
-use Rattle.joined_runs.proofs.Leading.{Filling, filling_begins, filling_on, filling_ends}
+use Rattle.joined_runs.proofs.Leading.{Filling}
 use Rattle.joined_runs.proofs.fill.Given as goal
 
 abbrev pub invariant-loop-j : goal.invariant-loop-j

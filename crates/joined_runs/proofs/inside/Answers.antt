@@ -1,8 +1,5 @@
 -- The row of seq2 is added from the lowest end of seq1 on.
-use borrow.Author.Rules.{rules}
-use Prim.Native.Nat.{◌+◌, ◌*◌, ◌≤◌}
 use native.Mathlib.Omega.{arith}
-use lib.ListN.{length}
 use Rattle.runs.proofs.Laws.{row_inside}
 use Rattle.joined_runs.proofs.Lowering.{ends-inside}
 use Rattle.joined_runs.proofs.inside.Goals as goal

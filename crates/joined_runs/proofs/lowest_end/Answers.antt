@@ -1,7 +1,5 @@
 -- The loop looks at one end after another, and leaves at the first.
-use borrow.Author.Rules.{rules}
-use Prim.Native.Nat.{◌-◌}
-use Rattle.joined_runs.proofs.Lowering.{Seeking, seeking_begins, seeking_on, seeking_found, seeking_ends}
+use Rattle.joined_runs.proofs.Lowering.{seeking_begins, seeking_on, seeking_found, seeking_ends}
 use Rattle.joined_runs.proofs.lowest_end.Goals as goal
 
 pub loop-j-init : goal.loop-j-init

@@ -1,7 +1,6 @@
 -- The loop looks at one end after another, and leaves at the first.
-use borrow.Author.Rules.{rules}
 use Prim.Native.Nat.{◌-◌}
-use Rattle.joined_runs.proofs.Lowering.{Seeking, seeking_begins, seeking_on, seeking_found, seeking_ends}
+use Rattle.joined_runs.proofs.Lowering.{Seeking}
 use Rattle.joined_runs.proofs.lowest_end.Given as goal
 
 abbrev pub invariant-loop-j : goal.invariant-loop-j

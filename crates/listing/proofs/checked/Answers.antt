@@ -1,8 +1,5 @@
 -- The loop finds the first word that does not fit: it keeps `Passing` with the count of the whole slice.
-use Prim.Native.Nat.{◌-◌}
-use lib.ListN.{length}
-use Rattle.listing.proofs.OnePass.{Passing, passing_begins, passing_on, faulty_here, faulty_past, described_there, ends_early}
-use borrow.Author.Rules.{rules}
+use Rattle.listing.proofs.OnePass.{passing_begins, passing_on, faulty_here, faulty_past, described_there, ends_early}
 use Rattle.listing.proofs.checked.Goals as goal
 
 pub loop-at-init : goal.loop-at-init

@@ -1,8 +1,7 @@
 -- The loop finds the first word that does not fit: it keeps `Passing` with the count of the whole slice.
 use Prim.Native.Nat.{◌-◌}
 use lib.ListN.{length}
-use Rattle.listing.proofs.OnePass.{Passing, passing_begins, passing_on, faulty_here, faulty_past, described_there, ends_early}
-use borrow.Author.Rules.{rules}
+use Rattle.listing.proofs.OnePass.{Passing}
 use Rattle.listing.proofs.checked.Given as goal
 
 abbrev pub invariant-loop-at : goal.invariant-loop-at

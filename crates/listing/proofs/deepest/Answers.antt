@@ -1,8 +1,6 @@
 -- The loop keeps the deepest height so far.
 use borrow.Author.Rules.{rules}
-use Prim.Native.Nat.{◌-◌}
-use lib.ListN.{length}
-use Rattle.listing.proofs.Laws.{Deepening, deepening_begins, operand-found, deepening_on, deepening_ends}
+use Rattle.listing.proofs.Laws.{deepening_begins, operand-found, deepening_on, deepening_ends}
 use Rattle.listing.proofs.deepest.Goals as goal
 
 pub loop-at-init : goal.loop-at-init

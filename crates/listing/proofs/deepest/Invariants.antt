@@ -1,8 +1,7 @@
 -- The loop keeps the deepest height so far.
-use borrow.Author.Rules.{rules}
 use Prim.Native.Nat.{◌-◌}
 use lib.ListN.{length}
-use Rattle.listing.proofs.Laws.{Deepening, deepening_begins, operand-found, deepening_on, deepening_ends}
+use Rattle.listing.proofs.Laws.{Deepening}
 use Rattle.listing.proofs.deepest.Given as goal
 
 abbrev pub invariant-loop-at : goal.invariant-loop-at

@@ -1,6 +1,5 @@
 -- Where the word lies tells whether it has the operation.
 use Rattle.listing.proofs.NotedWord.{below-reach, within-reach, beyond_reach}
-use borrow.Author.Rules.{rules}
 use Rattle.listing.proofs.reach.Goals as goal
 
 pub returns-then-w-first : goal.returns-then-w-first

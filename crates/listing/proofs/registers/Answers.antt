@@ -1,8 +1,5 @@
 -- The loop counts the stores of the whole slice.
-use borrow.Author.Rules.{rules}
-use Prim.Native.Nat.{◌-◌}
-use lib.ListN.{length}
-use Rattle.listing.proofs.Laws.{Counting, counting_begins, counting_on, counting_ends}
+use Rattle.listing.proofs.Laws.{counting_begins, counting_on, counting_ends}
 use Rattle.listing.proofs.registers.Goals as goal
 
 pub loop-at-init : goal.loop-at-init

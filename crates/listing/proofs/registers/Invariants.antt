@@ -1,8 +1,7 @@
 -- The loop counts the stores of the whole slice.
-use borrow.Author.Rules.{rules}
 use Prim.Native.Nat.{◌-◌}
 use lib.ListN.{length}
-use Rattle.listing.proofs.Laws.{Counting, counting_begins, counting_on, counting_ends}
+use Rattle.listing.proofs.Laws.{Counting}
 use Rattle.listing.proofs.registers.Given as goal
 
 abbrev pub invariant-loop-at : goal.invariant-loop-at

@@ -1,6 +1,5 @@
 -- Operations of one kind have one row.
 use Rattle.listing.proofs.Laws.{a_value_for_each, a_change_for_each, a_join_for_each, an_end_for_each}
-use borrow.Author.Rules.{rules}
 use Rattle.listing.proofs.row_of_word.Goals as goal
 
 pub returns-then-w-lt-ANY : goal.returns-then-w-lt-ANY

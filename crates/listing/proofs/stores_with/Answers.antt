@@ -1,6 +1,5 @@
 -- A store counts one, by `is_store`.
 use Rattle.listing.proofs.Laws.{store_more, store-none}
-use borrow.Author.Rules.{rules}
 use Rattle.listing.proofs.stores_with.Goals as goal
 
 pub returns-then-is_store : goal.returns-then-is_store

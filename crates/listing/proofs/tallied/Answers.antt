@@ -1,6 +1,5 @@
 -- Each count with what its own function answers.
 use Rattle.listing.proofs.NotedWord.{tallied_so}
-use borrow.Author.Rules.{rules}
 use Rattle.listing.proofs.tallied.Goals as goal
 
 pub returns : goal.returns

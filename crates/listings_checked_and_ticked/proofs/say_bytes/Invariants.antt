@@ -1,5 +1,4 @@
 -- The loop ends: it goes up to the length.
-use borrow.Author.Rules.{rules}
 use Prim.Native.Nat.{◌-◌, ◌≤◌}
 use lib.ListN.{length}
 use Rattle.listings_checked_and_ticked.proofs.say_bytes.Given as goal

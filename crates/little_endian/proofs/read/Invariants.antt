@@ -1,8 +1,7 @@
 -- The loop reads four bytes and puts a word.
-use borrow.Author.Rules.{rules}
 use Prim.Native.Nat.{◌-◌}
 use lib.ListN.{length}
-use Rattle.little_endian.proofs.Laws.{Reading, reading_begins, reading_on, reading_ends}
+use Rattle.little_endian.proofs.Laws.{Reading}
 use Rattle.little_endian.proofs.read.Given as goal
 
 abbrev pub invariant-loop-at : goal.invariant-loop-at

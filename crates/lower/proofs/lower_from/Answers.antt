@@ -1,6 +1,5 @@
 -- `lower_from` lowers, then clears the work.
 use Rattle.lower.proofs.Laws.{lowers}
-use borrow.Author.Rules.{rules}
 use Rattle.lower.proofs.lower_from.Goals as goal
 
 pub returns : goal.returns

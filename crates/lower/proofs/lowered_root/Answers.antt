@@ -1,6 +1,5 @@
 -- `lowered_root` surveys the alternatives: 12, then 13, then the listing.
 use Rattle.lower.proofs.Laws.{outlines_again, finishes_misplaced, finishes_too_many, is_placed}
-use borrow.Author.Rules.{rules}
 use Rattle.lower.proofs.lowered_root.Goals as goal
 
 pub returns-in_default : goal.returns-in_default

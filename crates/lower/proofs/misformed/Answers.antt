@@ -1,6 +1,5 @@
 -- `misformed` hands up the table's refusal.
 use Rattle.lower.specs.Stages.{table_answer}
-use borrow.Author.Rules.{rules}
 use Rattle.lower.proofs.misformed.Goals as goal
 
 pub returns-in-Refused : goal.returns-in-Refused

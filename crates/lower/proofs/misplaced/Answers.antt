@@ -1,6 +1,5 @@
 -- `misplaced` hands up the survey's refusal.
 use Rattle.lower.specs.Stages.{surveyed_answer}
-use borrow.Author.Rules.{rules}
 use Rattle.lower.proofs.misplaced.Goals as goal
 
 pub returns-in-Misplaced : goal.returns-in-Misplaced

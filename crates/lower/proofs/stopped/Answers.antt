@@ -1,6 +1,5 @@
 -- `stopped` hands up the walk's refusal.
 use Rattle.lower.specs.Stages.{walked_answer}
-use borrow.Author.Rules.{rules}
 use Rattle.lower.proofs.stopped.Goals as goal
 
 pub returns-in-Refused : goal.returns-in-Refused

@@ -1,6 +1,5 @@
 -- `surveyed` reads the root's kind: the registers of a within, or the survey of a choice.
 use Rattle.lower.proofs.AtRoot.{root_is_keepable, choice-surveyed, operands_are_paired, within-surveyed}
-use borrow.Author.Rules.{rules}
 use Rattle.lower.proofs.surveyed.Goals as goal
 
 pub registers-registers-requires : goal.registers-registers-requires

@@ -1,6 +1,5 @@
 -- `word_count` reads the root's kind, and counts the words of all pairs or of the choice.
 use Rattle.lower.proofs.AtRoot.{few_from_0, counted_as, root_is_numberable, choice-listing, operands_are_numberable, within-listing}
-use borrow.Author.Rules.{rules}
 use Rattle.lower.proofs.word_count.Goals as goal
 
 pub word_count-requires : goal.word_count-requires

@@ -1,6 +1,5 @@
 -- `write` reads the root's kind, and writes all pairs or the choice.
 use Rattle.lower.proofs.AtRoot.{room_as, written_as, root_is_numberable, choice-listing, operands_are_numberable, within-listing}
-use borrow.Author.Rules.{rules}
 use Rattle.lower.proofs.write.Goals as goal
 
 pub write-requires : goal.write-requires

@@ -1,8 +1,7 @@
 -- The loop looks for a run from start to start.
 use borrow.Author.Rules.{rules}
-use Prim.Native.Nat.{◌-◌}
 use native.Mathlib.Omega.{arith}
-use Rattle.matches.proofs.AnsweredTicks.{Looking, looking_begins, looking_inside, looking_on, a_run_found, none_found}
+use Rattle.matches.proofs.AnsweredTicks.{looking_begins, looking_inside, looking_on, a_run_found, none_found}
 use Rattle.matches.proofs.ends_at.Goals as goal
 
 pub loop-i-init : goal.loop-i-init

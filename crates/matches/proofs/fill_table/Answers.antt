@@ -1,7 +1,6 @@
 -- The loop fills row after row.
 use borrow.Author.Rules.{rules}
-use Prim.Native.Nat.{◌-◌}
-use Rattle.matches.proofs.FilledRows.{TableFilling, table_filling_begins, table_filling_ready, table_filling_on, table_filling_ends}
+use Rattle.matches.proofs.FilledRows.{table_filling_begins, table_filling_ready, table_filling_on, table_filling_ends}
 use Rattle.matches.proofs.fill_table.Goals as goal
 
 pub loop-i-init : goal.loop-i-init

@@ -1,7 +1,6 @@
 -- The loop fills row after row.
-use borrow.Author.Rules.{rules}
 use Prim.Native.Nat.{◌-◌}
-use Rattle.matches.proofs.FilledRows.{TableFilling, table_filling_begins, table_filling_ready, table_filling_on, table_filling_ends}
+use Rattle.matches.proofs.FilledRows.{TableFilling}
 use Rattle.matches.proofs.fill_table.Given as goal
 
 abbrev pub invariant-loop-i : goal.invariant-loop-i

@@ -1,5 +1,4 @@
 -- A refusal is handed on; so many ticks are answered.
-use borrow.Author.Rules.{rules}
 use Rattle.matches.proofs.AnsweredTicks.{ticks_fillable, ticks_have_room, refused_uncleared, ticks_uncleared}
 use Rattle.matches.proofs.matched.Goals as goal
 

@@ -1,5 +1,4 @@
 -- Work is cleared after all answers.
-use borrow.Author.Rules.{rules}
 use Rattle.matches.proofs.AnsweredTicks.{cleared_matches}
 use Rattle.matches.proofs.matches.Goals as goal
 

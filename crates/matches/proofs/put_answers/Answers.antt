@@ -1,7 +1,5 @@
 -- The loop puts a byte for tick after tick.
-use borrow.Author.Rules.{rules}
-use Prim.Native.Nat.{◌-◌}
-use Rattle.matches.proofs.AnsweredTicks.{EndsPutting, ends_putting_begins, ends_putting_on, ends_putting_ends}
+use Rattle.matches.proofs.AnsweredTicks.{ends_putting_begins, ends_putting_on, ends_putting_ends}
 use Rattle.matches.proofs.put_answers.Goals as goal
 
 pub loop-tick-init : goal.loop-tick-init

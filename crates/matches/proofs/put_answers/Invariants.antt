@@ -1,7 +1,6 @@
 -- The loop puts a byte for tick after tick.
-use borrow.Author.Rules.{rules}
 use Prim.Native.Nat.{◌-◌}
-use Rattle.matches.proofs.AnsweredTicks.{EndsPutting, ends_putting_begins, ends_putting_on, ends_putting_ends}
+use Rattle.matches.proofs.AnsweredTicks.{EndsPutting}
 use Rattle.matches.proofs.put_answers.Given as goal
 
 abbrev pub invariant-loop-tick : goal.invariant-loop-tick

@@ -1,8 +1,5 @@
 -- The loop copies the row byte by byte.
-use borrow.Author.Rules.{rules}
-use Prim.Native.Nat.{◌-◌}
-use lib.ListN.{length}
-use Rattle.matches.proofs.FilledRows.{RowPutting, row_putting_begins, row_putting_on, row_putting_ends}
+use Rattle.matches.proofs.FilledRows.{row_putting_begins, row_putting_on, row_putting_ends}
 use Rattle.matches.proofs.put_row.Goals as goal
 
 pub loop-j-init : goal.loop-j-init

@@ -1,8 +1,7 @@
 -- The loop copies the row byte by byte.
-use borrow.Author.Rules.{rules}
 use Prim.Native.Nat.{◌-◌}
 use lib.ListN.{length}
-use Rattle.matches.proofs.FilledRows.{RowPutting, row_putting_begins, row_putting_on, row_putting_ends}
+use Rattle.matches.proofs.FilledRows.{RowPutting}
 use Rattle.matches.proofs.put_row.Given as goal
 
 abbrev pub invariant-loop-j : goal.invariant-loop-j

@@ -1,7 +1,6 @@
 -- The place of a table is a small product.
 use native.Mathlib.Omega.{arith}
 use Rattle.matches.proofs.TablesApart.{square_small, table_small}
-use borrow.Author.Rules.{rules}
 use Rattle.matches.proofs.table_of.Goals as goal
 
 pub overflow_mul-result : goal.overflow_mul-result

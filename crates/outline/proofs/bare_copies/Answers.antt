@@ -1,5 +1,4 @@
 -- `bare_copies` makes the tests of `is_once`.
-use borrow.Author.Rules.{rules}
 use Rattle.words.specs.Choice.{pick, tests}
 use Rattle.outline.specs.Outline.{is_once}
 use Rattle.outline.proofs.bare_copies.Goals as goal

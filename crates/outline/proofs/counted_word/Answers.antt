@@ -1,6 +1,5 @@
 -- The count and the node, and the flag where there is a guard.
 use Rattle.outline.proofs.Laws.{guarded-word, unguarded-word}
-use borrow.Author.Rules.{rules}
 use Rattle.outline.proofs.counted_word.Goals as goal
 
 pub returns-then-c : goal.returns-then-c

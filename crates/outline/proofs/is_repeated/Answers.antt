@@ -1,6 +1,5 @@
 -- The three tests, one after the other.
 use Rattle.outline.proofs.Laws.{repeated_told}
-use borrow.Author.Rules.{rules}
 use Rattle.outline.proofs.is_repeated.Goals as goal
 
 pub returns : goal.returns

@@ -1,5 +1,4 @@
 -- `closed` writes the AND, and the OR where words of the match stand before.
-use borrow.Author.Rules.{rules}
 use Rattle.pair.proofs.Pairs.{joins_none, joining-room, joined_done}
 use Rattle.pair.proofs.closed.Goals as goal
 

@@ -1,7 +1,5 @@
 -- `ored` writes two words a register; what is left of them is said in `Oring`.
-use borrow.Author.Rules.{rules}
-use Prim.Native.Nat.{◌-◌}
-use Rattle.pair.proofs.Delays.{Oring, oring_begins, oring_on, oring_ends}
+use Rattle.pair.proofs.Delays.{oring_begins, oring_on, oring_ends}
 use Rattle.pair.proofs.ored.Goals as goal
 
 pub loop-k-init : goal.loop-k-init

@@ -1,7 +1,6 @@
 -- `ored` writes two words a register; what is left of them is said in `Oring`.
-use borrow.Author.Rules.{rules}
 use Prim.Native.Nat.{◌-◌}
-use Rattle.pair.proofs.Delays.{Oring, oring_begins, oring_on, oring_ends}
+use Rattle.pair.proofs.Delays.{Oring}
 use Rattle.pair.proofs.ored.Given as goal
 
 abbrev pub invariant-loop-k : goal.invariant-loop-k

@@ -1,7 +1,6 @@
 -- `window_len` adds up the hops of the steps after the first; what is left of them is said in `Windowing`.
 use borrow.Author.Rules.{rules}
-use Prim.Native.Nat.{◌-◌}
-use Rattle.pair.proofs.Windows.{Windowing, windowing_begins, windowing_on, windowing_ends}
+use Rattle.pair.proofs.Windows.{windowing_begins, windowing_on, windowing_ends}
 use Rattle.pair.proofs.window_len.Goals as goal
 
 pub loop-k-init : goal.loop-k-init

@@ -1,6 +1,5 @@
 -- `delay` puts the register before, the guard and the store.
 use Rattle.pipeline.proofs.Laws.{after_one}
-use borrow.Author.Rules.{rules}
 use Rattle.pipeline.proofs.delay.Goals as goal
 
 pub returns : goal.returns

@@ -1,8 +1,6 @@
 -- `delays` puts one delay after the other; what is left of them is said in `Delaying`.
 use Prim.Native.Nat.{◌-◌}
-use Rattle.term.specs.Keeping.{guard_of}
-use Rattle.pipeline.proofs.Laws.{Delaying, delaying_begins, delaying_room, delaying_on, delaying_ends}
-use borrow.Author.Rules.{rules}
+use Rattle.pipeline.proofs.Laws.{Delaying}
 use Rattle.pipeline.proofs.delays.Given as goal
 
 abbrev pub invariant-loop-i : goal.invariant-loop-i

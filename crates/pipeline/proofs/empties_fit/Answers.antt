@@ -1,7 +1,5 @@
 -- `empties_fit` looks at hop after hop up to one that does not fit; what is left of them is said in `Fitting`.
-use Prim.Native.Nat.{◌-◌}
-use Rattle.pipeline.proofs.Fit.{Fitting, fitting-begins, fitting_on, fitting_fails, fitting-ends}
-use borrow.Author.Rules.{rules}
+use Rattle.pipeline.proofs.Fit.{fitting-begins, fitting_on, fitting_fails, fitting-ends}
 use Rattle.pipeline.proofs.empties_fit.Goals as goal
 
 pub loop-k-init : goal.loop-k-init

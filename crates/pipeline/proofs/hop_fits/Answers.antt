@@ -1,7 +1,6 @@
 -- `hop_fits` makes the two tests of `hop_fits`.
 use Rattle.words.specs.Choice.{tests}
 use Rattle.pipeline.specs.Fit.{hop_fits}
-use borrow.Author.Rules.{rules}
 use Rattle.pipeline.proofs.hop_fits.Goals as goal
 
 pub returns-then-before : goal.returns-then-before

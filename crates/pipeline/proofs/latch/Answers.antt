@@ -1,6 +1,5 @@
 -- `latch` puts the latch around the text before.
 use Rattle.pipeline.proofs.Laws.{after_one}
-use borrow.Author.Rules.{rules}
 use Rattle.pipeline.proofs.latch.Goals as goal
 
 pub returns : goal.returns

@@ -1,6 +1,5 @@
 -- `laters` puts the stores of step after step; what is left of them is said in `Storing`.
-use Prim.Native.Nat.{◌-◌}
-use Rattle.pipeline.proofs.Laws.{Storing, first_high, storing_begins, storing_high, storing_ready, storing_later, storing_room, storing_on, storing_ends}
+use Rattle.pipeline.proofs.Laws.{first_high, storing_begins, storing_high, storing_ready, storing_later, storing_room, storing_on, storing_ends}
 use borrow.Author.Rules.{rules}
 use Rattle.pipeline.proofs.laters.Goals as goal
 

@@ -1,7 +1,5 @@
 -- `registers` adds the registers of step after step; what is left of them is said in `Summing`.
-use Prim.Native.Nat.{◌-◌}
-use Rattle.pipeline.proofs.Fit.{Summing, summing_begins, summing_on, summing_ends, summing_small}
-use borrow.Author.Rules.{rules}
+use Rattle.pipeline.proofs.Fit.{summing_begins, summing_on, summing_ends, summing_small}
 use Rattle.pipeline.proofs.registers.Goals as goal
 
 pub loop-k-init : goal.loop-k-init

@@ -1,7 +1,6 @@
 -- `registers` adds the registers of step after step; what is left of them is said in `Summing`.
 use Prim.Native.Nat.{◌-◌}
-use Rattle.pipeline.proofs.Fit.{Summing, summing_begins, summing_on, summing_ends, summing_small}
-use borrow.Author.Rules.{rules}
+use Rattle.pipeline.proofs.Fit.{Summing}
 use Rattle.pipeline.proofs.registers.Given as goal
 
 abbrev pub invariant-loop-k : goal.invariant-loop-k

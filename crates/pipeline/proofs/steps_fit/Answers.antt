@@ -1,6 +1,5 @@
 -- `steps_fit` looks at the first term, then at the hops.
 use Rattle.pipeline.proofs.Fit.{lead_misplaced, lead_fits}
-use borrow.Author.Rules.{rules}
 use Rattle.pipeline.proofs.steps_fit.Goals as goal
 
 pub returns-then-is_empty : goal.returns-then-is_empty

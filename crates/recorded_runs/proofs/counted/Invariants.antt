@@ -1,10 +1,7 @@
 -- The loop counts b, and sets the ends as it passes them.
-use borrow.Author.Rules.{rules}
 use Prim.Native.Nat.{◌-◌}
-use native.Mathlib.Omega.{arith}
 use lib.ListN.{length}
-use Rattle.recorded_runs.proofs.Counting.{Counting, counting_begins, counting_adds, counting_waits, counting_on, counting_stops, counting_ends, at_most_one}
-use Rattle.recorded_runs.proofs.Rows.{tick_there}
+use Rattle.recorded_runs.proofs.Counting.{Counting}
 use Rattle.recorded_runs.proofs.counted.Given as goal
 
 abbrev pub invariant-loop-tick : goal.invariant-loop-tick

@@ -1,5 +1,4 @@
 -- An atom's byte is read in its tick's row.
-use borrow.Author.Rules.{rules}
 use Rattle.recorded_runs.proofs.Rows.{held}
 use Rattle.recorded_runs.proofs.holds.Goals as goal
 

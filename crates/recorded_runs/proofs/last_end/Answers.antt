@@ -1,8 +1,7 @@
 -- The loop goes on as long as the atom holds.
 use borrow.Author.Rules.{rules}
-use Prim.Native.Nat.{◌-◌}
 use Rattle.recorded_runs.proofs.Rows.{tick_there}
-use Rattle.recorded_runs.proofs.Lasting.{Lasting, lasting_begins, lasting_on, lasting_stops, lasting_ends}
+use Rattle.recorded_runs.proofs.Lasting.{lasting_begins, lasting_on, lasting_stops, lasting_ends}
 use Rattle.recorded_runs.proofs.last_end.Goals as goal
 
 pub loop-end-init : goal.loop-end-init

@@ -1,5 +1,4 @@
 -- The ends of the table's row are added to the front of the row, up to the last end of the condition.
-use borrow.Author.Rules.{rules}
 use native.Mathlib.Omega.{arith}
 use Rattle.runs.proofs.Laws.{row_inside}
 use Rattle.recorded_runs.proofs.Fronts.{front_long, front-inside, throughout_gained}

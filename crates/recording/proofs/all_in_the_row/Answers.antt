@@ -1,7 +1,5 @@
 -- The loop has found no node below n outside the row.
-use borrow.Author.Rules.{rules}
-use Prim.Native.Nat.{◌-◌}
-use Rattle.recording.proofs.Rows.{InTheRowBelow, in_the_row-begins, outside_the_row, one_more_in_the_row, in_the_row-ends}
+use Rattle.recording.proofs.Rows.{in_the_row-begins, outside_the_row, one_more_in_the_row, in_the_row-ends}
 use Rattle.recording.proofs.all_in_the_row.Goals as goal
 
 pub loop-n-init : goal.loop-n-init

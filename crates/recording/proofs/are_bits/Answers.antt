@@ -1,8 +1,5 @@
 -- The loop has found no byte above 1 before i.
-use borrow.Author.Rules.{rules}
-use Prim.Native.Nat.{◌-◌}
-use lib.ListN.{length}
-use Rattle.recording.proofs.Rows.{BitsBefore, bits_begin, a_byte_above_1, a_bit_more, bits_end}
+use Rattle.recording.proofs.Rows.{bits_begin, a_byte_above_1, a_bit_more, bits_end}
 use Rattle.recording.proofs.are_bits.Goals as goal
 
 pub loop-i-init : goal.loop-i-init

@@ -2,7 +2,6 @@
 use Rattle.words.specs.Choice.{tests}
 use Rattle.recording.specs.Refusals.{good_rows}
 use Rattle.recording.proofs.Rows.{not_all_bits, the_nodes_decide}
-use borrow.Author.Rules.{rules}
 use Rattle.recording.proofs.good_rows.Goals as goal
 
 pub returns-then-width-eq0 : goal.returns-then-width-eq0

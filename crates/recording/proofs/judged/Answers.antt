@@ -1,6 +1,5 @@
 -- The tree, the rows and the room are judged in this order.
 use Rattle.recording.proofs.Judging.{a_refused_tree, few-nodes, refused_rows, some_width, few_ticks, refused_room, so_many_ticks}
-use borrow.Author.Rules.{rules}
 use Rattle.recording.proofs.judged.Goals as goal
 
 pub nonzero_div-ticks : goal.nonzero_div-ticks

@@ -1,7 +1,6 @@
 -- The loop has found no node below n that 6 refuses.
-use borrow.Author.Rules.{rules}
 use Prim.Native.Nat.{◌-◌}
-use Rattle.tree.proofs.Lowest.{Looking, looking_begins, looking_on, fails_here, none_fails}
+use Rattle.tree.proofs.Lowest.{Looking}
 use Rattle.recording.specs.Refusals.{over_an_atom}
 use Rattle.recording.proofs.lowest_not_over_an_atom.Given as goal
 

@@ -1,6 +1,5 @@
 -- `misformed` hands up the refusal of the tree.
 use Rattle.recording.specs.Refusals.{table_answer}
-use borrow.Author.Rules.{rules}
 use Rattle.recording.proofs.misformed.Goals as goal
 
 pub returns-in-Refused : goal.returns-in-Refused

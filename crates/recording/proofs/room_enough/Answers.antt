@@ -2,7 +2,6 @@
 use Rattle.words.specs.Choice.{tests}
 use Rattle.recording.specs.Refusals.{room_enough}
 use Rattle.recording.proofs.Judging.{a_table_fits, all_tables_fit}
-use borrow.Author.Rules.{rules}
 use Rattle.recording.proofs.room_enough.Goals as goal
 
 pub returns-then-answers-ticks : goal.returns-then-answers-ticks

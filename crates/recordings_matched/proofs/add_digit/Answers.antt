@@ -1,7 +1,6 @@
 -- `add_digit` stays inside the bytes.
 use native.Mathlib.Omega.{arith}
 use lib.ListN.{length-set}
-use borrow.Author.Rules.{rules}
 use Rattle.recordings_matched.proofs.add_digit.Goals as goal
 
 pub returns : goal.returns

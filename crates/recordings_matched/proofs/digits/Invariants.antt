@@ -1,5 +1,4 @@
 -- `digits` stays inside the text and the bytes: a byte of the text less is left each turn.
-use borrow.Author.Rules.{rules}
 use Prim.Native.Nat.{◌-◌, ◌≤◌}
 use mathlib.Core.Path.{◌≡◌}
 use lib.ListN.{length}

@@ -1,5 +1,4 @@
 -- `only` ends: a byte less is left each turn.
-use borrow.Author.Rules.{rules}
 use Prim.Native.Nat.{◌-◌}
 use lib.ListN.{length}
 use Rattle.recordings_matched.proofs.only.Given as goal

@@ -1,7 +1,4 @@
 -- `say_answers` ends: an answer less is left each turn.
-use borrow.Author.Rules.{rules}
-use Prim.Native.Nat.{◌-◌}
-use lib.ListN.{length}
 use Rattle.recordings_matched.proofs.say_answers.Goals as goal
 
 pub loop-i-init : goal.loop-i-init

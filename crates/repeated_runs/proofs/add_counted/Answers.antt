@@ -1,5 +1,4 @@
 -- Copies below the lowest count add nothing.
-use borrow.Author.Rules.{rules}
 use native.Mathlib.Omega.{arith}
 use Rattle.runs.proofs.Laws.{gains_none}
 use Rattle.repeated_runs.proofs.Repeating.{counted}

@@ -1,9 +1,6 @@
 -- The loop adds what is reached from one point of the row after another.
-use borrow.Author.Rules.{rules}
-use Prim.Native.Nat.{◌-◌}
 use native.Mathlib.Omega.{arith}
-use lib.ListN.{length}
-use Rattle.repeated_runs.proofs.Closing.{Closing, closing-begins, closing-inside, closing_on, closing_past, closing-ends}
+use Rattle.repeated_runs.proofs.Closing.{closing-begins, closing-inside, closing_on, closing_past, closing-ends}
 use Rattle.repeated_runs.proofs.close.Goals as goal
 use Rattle.repeated_runs.proofs.close.Goals.{then-row-k-eq1, else-row-k-eq1}
 

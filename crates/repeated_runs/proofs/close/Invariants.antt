@@ -1,10 +1,7 @@
 -- The loop adds what is reached from one point of the row after another.
-use borrow.Author.Rules.{rules}
-use mathlib.Core.Logic.{⊎_elim}
 use Prim.Native.Nat.{◌-◌}
-use native.Mathlib.Omega.{arith}
 use lib.ListN.{length}
-use Rattle.repeated_runs.proofs.Closing.{Closing, closing-begins, closing-inside, closing_on, closing_past, closing-ends}
+use Rattle.repeated_runs.proofs.Closing.{Closing}
 use Rattle.repeated_runs.proofs.close.Given as goal
 
 abbrev pub invariant-loop-k : goal.invariant-loop-k

@@ -2,10 +2,8 @@
 -- is, or closed.
 use mathlib.Core.Path.{sym}
 use borrow.Author.Rules.{rules}
-use Prim.Native.Nat.{◌-◌}
-use native.Mathlib.Omega.{arith}
 use Rattle.repeated_runs.proofs.Rows.{part_long, part_short, part_fits}
-use Rattle.repeated_runs.proofs.Repeating.{Repeating, Made, Lacking, repeating_begins, repeating_on, repeating_settles, repeating_ends, last-lacking, closed_lacking, nothing-lacking}
+use Rattle.repeated_runs.proofs.Repeating.{Made, Lacking, repeating_begins, repeating_on, repeating_settles, repeating_ends, last-lacking, closed_lacking, nothing-lacking}
 use Rattle.repeated_runs.proofs.repeated.Goals as goal
 use Rattle.repeated_runs.proofs.repeated.Goals.{else-loop-copies-test, then-loop-copies-test+then-same, then-side-max, else-side-max}
 
@@ -31,11 +29,12 @@ pub returns : goal.returns
 returns c =
     let a = c.args in
     let made : Made a.tables.now a.table c.capped-low.result c.last-high.result a.i a.row.now c.loop-copies-test.row c.loop-copies.ends =
-        elim c.loop-copies-test.branch
-        [ else-loop-copies-test w ↦ rw w.row-is (search repeating_ends)
-        | then-loop-copies-test+then-same w ↦ rw w.row-is (search repeating_settles) ]
+    elim c.loop-copies-test.branch [
+      | else-loop-copies-test w ↦ rw w.row-is (search repeating_ends)
+      | then-loop-copies-test+then-same w ↦ rw w.row-is (search repeating_settles)
+    ]
     in
     let lacking : Lacking a.tables.now a.table a.min a.max a.i a.row.now c.loop-copies-test.row c.if-side-max.ends =
-        elim c.if-side-max.branch [ then-side-max w ↦ search (closed_lacking, made) | else-side-max w ↦ search (last-lacking, made) ]
+    elim c.if-side-max.branch [ then-side-max w ↦ search (closed_lacking, made) | else-side-max w ↦ search (last-lacking, made) ]
     in
     search (nothing-lacking, lacking)

@@ -1,7 +1,6 @@
 -- The loop goes on while the two rows are the same.
-use borrow.Author.Rules.{rules}
 use Prim.Native.Nat.{◌-◌}
-use Rattle.repeated_runs.proofs.Rows.{Comparing, comparing_begins, comparing_on, differ_here, differ_nowhere}
+use Rattle.repeated_runs.proofs.Rows.{Comparing}
 use Rattle.repeated_runs.proofs.same.Given as goal
 
 abbrev pub invariant-loop-j : goal.invariant-loop-j

@@ -1,8 +1,5 @@
 -- The loop adds one end after another.
-use borrow.Author.Rules.{rules}
-use Prim.Native.Nat.{◌-◌}
-use lib.ListN.{length}
-use Rattle.runs.proofs.Reaching.{Adding, adding_begins, adding_on, adding_ends}
+use Rattle.runs.proofs.Reaching.{adding_begins, adding_on, adding_ends}
 use Rattle.runs.proofs.add_ends.Goals as goal
 
 pub loop-j-init : goal.loop-j-init

@@ -1,8 +1,7 @@
 -- The loop adds one end after another.
-use borrow.Author.Rules.{rules}
 use Prim.Native.Nat.{◌-◌}
 use lib.ListN.{length}
-use Rattle.runs.proofs.Reaching.{Adding, adding_begins, adding_on, adding_ends}
+use Rattle.runs.proofs.Reaching.{Adding}
 use Rattle.runs.proofs.add_ends.Given as goal
 
 abbrev pub invariant-loop-j : goal.invariant-loop-j

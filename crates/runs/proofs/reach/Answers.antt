@@ -1,9 +1,6 @@
 -- The loop adds what is reached from one point after another.
-use borrow.Author.Rules.{rules}
-use Prim.Native.Nat.{◌-◌}
 use native.Mathlib.Omega.{arith}
-use lib.ListN.{length}
-use Rattle.runs.proofs.Reaching.{Reaching, reaching_begins, reaching_inside, reaching_on, reaching_past, reaching_ends}
+use Rattle.runs.proofs.Reaching.{reaching_begins, reaching_inside, reaching_on, reaching_past, reaching_ends}
 use Rattle.runs.proofs.reach.Goals as goal
 use Rattle.runs.proofs.reach.Goals.{then-from-k-eq1, else-from-k-eq1}
 

@@ -1,10 +1,7 @@
 -- The loop adds what is reached from one point after another.
-use borrow.Author.Rules.{rules}
-use mathlib.Core.Logic.{⊎_elim}
 use Prim.Native.Nat.{◌-◌}
-use native.Mathlib.Omega.{arith}
 use lib.ListN.{length}
-use Rattle.runs.proofs.Reaching.{Reaching, reaching_begins, reaching_inside, reaching_on, reaching_past, reaching_ends}
+use Rattle.runs.proofs.Reaching.{Reaching}
 use Rattle.runs.proofs.reach.Given as goal
 
 abbrev pub invariant-loop-k : goal.invariant-loop-k

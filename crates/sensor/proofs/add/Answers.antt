@@ -1,5 +1,4 @@
 -- `add` puts the pixel's entry where there is one, and room for it.
-use borrow.Author.Rules.{rules}
 use Rattle.sensor.proofs.Laws.{no_entry, no_room, entry_put}
 use Rattle.sensor.proofs.add.Goals as goal
 

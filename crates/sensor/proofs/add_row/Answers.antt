@@ -1,8 +1,5 @@
 -- `add_row` puts the entries of a row, column by column.
-use borrow.Author.Rules.{rules}
-use Prim.Native.Nat.{◌-◌}
-use Rattle.sensor.specs.Maps.{row_entries}
-use Rattle.sensor.proofs.Laws.{Filling, filling_begins, column_on, row_ends}
+use Rattle.sensor.proofs.Laws.{filling_begins, column_on, row_ends}
 use Rattle.sensor.proofs.add_row.Goals as goal
 
 pub loop-column-init : goal.loop-column-init

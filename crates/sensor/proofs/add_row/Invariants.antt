@@ -1,8 +1,7 @@
 -- `add_row` puts the entries of a row, column by column.
-use borrow.Author.Rules.{rules}
 use Prim.Native.Nat.{◌-◌}
 use Rattle.sensor.specs.Maps.{row_entries}
-use Rattle.sensor.proofs.Laws.{Filling, filling_begins, column_on, row_ends}
+use Rattle.sensor.proofs.Laws.{Filling}
 use Rattle.sensor.proofs.add_row.Given as goal
 
 abbrev pub invariant-loop-column : goal.invariant-loop-column

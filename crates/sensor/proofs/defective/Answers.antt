@@ -2,7 +2,6 @@
 use Rattle.words.specs.Choice.{tests}
 use Rattle.sensor.specs.Sensor.{defective_at}
 use Rattle.sensor.proofs.Laws.{by_cluster}
-use borrow.Author.Rules.{rules}
 use Rattle.sensor.proofs.defective.Goals as goal
 
 pub returns-then-row-ge-ROWS : goal.returns-then-row-ge-ROWS

@@ -1,7 +1,6 @@
 -- `has` goes by how the map was loaded.
 use Rattle.words.specs.Choice.{tests}
 use Rattle.sensor.proofs.Laws.{made_has, transposed_has, lost_has}
-use borrow.Author.Rules.{rules}
 use Rattle.sensor.proofs.has.Goals as goal
 
 pub returns-then-row-ne-LOST_ROW : goal.returns-then-row-ne-LOST_ROW

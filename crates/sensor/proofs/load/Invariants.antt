@@ -1,8 +1,7 @@
 -- `load` puts the entries of the map, row by row.
-use borrow.Author.Rules.{rules}
 use Prim.Native.Nat.{◌-◌}
 use Rattle.sensor.specs.Maps.{entries_of, entries_from}
-use Rattle.sensor.proofs.Laws.{Filling, filling_begins, row_on, map-ends}
+use Rattle.sensor.proofs.Laws.{Filling}
 use Rattle.sensor.proofs.load.Given as goal
 
 abbrev pub invariant-loop-row : goal.invariant-loop-row

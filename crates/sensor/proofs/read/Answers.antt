@@ -1,7 +1,6 @@
 -- `read` is the definition's, test by test.
 use Rattle.words.specs.Choice.{tests}
 use Rattle.sensor.proofs.Laws.{by_defect}
-use borrow.Author.Rules.{rules}
 use Rattle.sensor.proofs.read.Goals as goal
 
 pub returns-then-defective : goal.returns-then-defective

@@ -2,7 +2,6 @@
 use Rattle.words.specs.Choice.{tests}
 use Rattle.sizes.specs.Sizes.{delays_size}
 use Rattle.sizes.proofs.Laws.{others_fit, delays-fit}
-use borrow.Author.Rules.{rules}
 use Rattle.sizes.proofs.delays.Goals as goal
 
 pub returns-then-d-eq0 : goal.returns-then-d-eq0

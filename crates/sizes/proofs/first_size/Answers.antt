@@ -1,7 +1,6 @@
 -- `first_size` adds the guard's words to those of the first term.
 use Rattle.sizes.specs.Sizes.{first_size}
 use Rattle.sizes.proofs.Laws.{lead_fits}
-use borrow.Author.Rules.{rules}
 use Rattle.sizes.proofs.first_size.Goals as goal
 
 pub overflow_add-result : goal.overflow_add-result

@@ -1,7 +1,6 @@
 -- `goto_size` makes the one test of `goto_size`, and finds that the sum fits.
 use Rattle.words.specs.Choice.{tests}
 use Rattle.sizes.specs.Sizes.{goto_size}
-use borrow.Author.Rules.{rules}
 use Rattle.sizes.proofs.goto_size.Goals as goal
 
 pub returns-then-count-lt2 : goal.returns-then-count-lt2

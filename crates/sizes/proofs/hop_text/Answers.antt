@@ -1,6 +1,5 @@
 -- `hop_text` counts the text after a hop, variant by variant.
 use Rattle.sizes.specs.Sizes.{hop_text_size}
-use borrow.Author.Rules.{rules}
 use Rattle.sizes.proofs.hop_text.Goals as goal
 
 pub returns-in-Fixed : goal.returns-in-Fixed

@@ -1,6 +1,5 @@
 -- `lead_text` counts the text after the first term, variant by variant.
 use Rattle.sizes.specs.Sizes.{lead_text_size}
-use borrow.Author.Rules.{rules}
 use Rattle.sizes.proofs.lead_text.Goals as goal
 
 pub returns-in-Bool : goal.returns-in-Bool

@@ -1,6 +1,5 @@
 -- `nonconsec_size` adds the extension to the goto's stores.
 use Rattle.sizes.proofs.Laws.{nonconsec-fits, nonconsec_one_fits}
-use borrow.Author.Rules.{rules}
 use Rattle.sizes.proofs.nonconsec_size.Goals as goal
 
 pub overflow_add-result : goal.overflow_add-result

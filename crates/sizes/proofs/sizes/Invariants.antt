@@ -1,7 +1,6 @@
 -- `sizes` counts step after step; what is left of them is said in `Sizing`.
 use Prim.Native.Nat.{◌-◌}
-use Rattle.sizes.proofs.Laws.{Sizing, guard-short, sizing_begins, sizing_guard, sizing_text, sizing_stores, sizing_registers, sizing_on, sizing_ends}
-use borrow.Author.Rules.{rules}
+use Rattle.sizes.proofs.Laws.{Sizing}
 use Rattle.sizes.proofs.sizes.Given as goal
 
 abbrev pub invariant-loop-k : goal.invariant-loop-k

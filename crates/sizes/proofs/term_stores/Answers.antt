@@ -1,6 +1,5 @@
 -- `term_stores` counts the stores of a term, variant by variant.
 use Rattle.sizes.specs.Sizes.{term_stores_size}
-use borrow.Author.Rules.{rules}
 use Rattle.sizes.proofs.term_stores.Goals as goal
 
 pub returns-in-Bool : goal.returns-in-Bool

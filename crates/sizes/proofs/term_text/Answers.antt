@@ -1,6 +1,5 @@
 -- `term_text` counts the text after a term, variant by variant.
 use Rattle.sizes.specs.Sizes.{term_text_size}
-use borrow.Author.Rules.{rules}
 use Rattle.sizes.proofs.term_text.Goals as goal
 
 pub returns-in-Bool : goal.returns-in-Bool

@@ -1,6 +1,5 @@
 -- `before_empty` shortens a fixed hop by one tick, variant by variant.
 use Rattle.step_text.specs.Text.{before_empty}
-use borrow.Author.Rules.{rules}
 use Rattle.step_text.proofs.before_empty.Goals as goal
 
 pub returns-in-Fixed : goal.returns-in-Fixed

@@ -1,6 +1,5 @@
 -- `hop_keeps` tests the ticks of a hop, variant by variant.
 use Rattle.step_text.specs.Text.{hop_keeps}
-use borrow.Author.Rules.{rules}
 use Rattle.step_text.proofs.hop_keeps.Goals as goal
 
 pub returns-in-Fixed : goal.returns-in-Fixed

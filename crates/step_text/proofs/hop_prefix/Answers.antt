@@ -2,7 +2,6 @@
 use Rattle.step_text.specs.Text.{hop_prefix}
 use Rattle.words.proofs.Laws.{nothing_written}
 use Rattle.step_text.proofs.Laws.{hop_prefix_in, hop_prefix-room}
-use borrow.Author.Rules.{rules}
 use Rattle.step_text.proofs.hop_prefix.Goals as goal
 
 pub put-requires : goal.put-requires

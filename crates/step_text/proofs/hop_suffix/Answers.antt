@@ -2,7 +2,6 @@
 use Rattle.step_text.specs.Text.{hop_suffix}
 use Rattle.words.proofs.Laws.{nothing_written}
 use Rattle.step_text.proofs.Laws.{hop_suffix_in, hop_suffix-room}
-use borrow.Author.Rules.{rules}
 use Rattle.step_text.proofs.hop_suffix.Goals as goal
 
 pub put-requires : goal.put-requires

@@ -1,6 +1,5 @@
 -- `reach` makes the one test of `reach`.
 use Rattle.step_text.proofs.Laws.{reach_empty, reach-other}
-use borrow.Author.Rules.{rules}
 use Rattle.step_text.proofs.reach.Goals as goal
 
 pub returns-then-is_empty : goal.returns-then-is_empty

@@ -1,6 +1,5 @@
 -- `step_prefix` puts the term's prefix, then the hop's.
 use Rattle.step_text.proofs.StepParts.{prefix_first, prefix_then, prefix_done, term_small, hop_small}
-use borrow.Author.Rules.{rules}
 use Rattle.step_text.proofs.step_prefix.Goals as goal
 
 pub term_prefix-next-requires : goal.term_prefix-next-requires

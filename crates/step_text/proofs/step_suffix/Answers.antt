@@ -1,6 +1,5 @@
 -- `step_suffix` puts the hop's suffix, then the term's.
 use Rattle.step_text.proofs.StepParts.{suffix_first, suffix_then, suffix_done, term_small}
-use borrow.Author.Rules.{rules}
 use Rattle.step_text.proofs.step_suffix.Goals as goal
 
 pub hop_suffix-next-requires : goal.hop_suffix-next-requires

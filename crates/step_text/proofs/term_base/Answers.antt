@@ -2,7 +2,6 @@
 use Rattle.step_text.specs.Text.{term_base}
 use Rattle.words.proofs.Laws.{nothing_written}
 use Rattle.step_text.proofs.Laws.{base_in, base_room, new-numbers}
-use borrow.Author.Rules.{rules}
 use Rattle.step_text.proofs.term_base.Goals as goal
 
 pub overflow_add-b : goal.overflow_add-b

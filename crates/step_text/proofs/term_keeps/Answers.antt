@@ -1,6 +1,5 @@
 -- `term_keeps` tests the count of a machine, variant by variant.
 use Rattle.step_text.specs.Text.{term_keeps}
-use borrow.Author.Rules.{rules}
 use Rattle.step_text.proofs.term_keeps.Goals as goal
 
 pub returns-in-Bool : goal.returns-in-Bool

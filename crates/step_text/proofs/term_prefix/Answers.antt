@@ -2,7 +2,6 @@
 use Rattle.step_text.specs.Text.{term_prefix}
 use Rattle.words.proofs.Laws.{nothing_written}
 use Rattle.step_text.proofs.Laws.{prefix_in, prefix_room, atom-fits}
-use borrow.Author.Rules.{rules}
 use Rattle.step_text.proofs.term_prefix.Goals as goal
 
 pub overflow_add-b : goal.overflow_add-b

@@ -1,6 +1,5 @@
 -- `term_register` steps over the registers of the hop.
 use Rattle.step_text.proofs.Laws.{term_register_fits, term_register_done}
-use borrow.Author.Rules.{rules}
 use Rattle.step_text.proofs.term_register.Goals as goal
 
 pub overflow_add-result : goal.overflow_add-result

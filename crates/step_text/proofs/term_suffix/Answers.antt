@@ -2,7 +2,6 @@
 use Rattle.step_text.specs.Text.{term_suffix}
 use Rattle.words.proofs.Laws.{nothing_written}
 use Rattle.step_text.proofs.Laws.{suffix_in, suffix_room, atom-fits}
-use borrow.Author.Rules.{rules}
 use Rattle.step_text.proofs.term_suffix.Goals as goal
 
 pub copied-requires : goal.copied-requires

@@ -1,5 +1,4 @@
 -- `sva_lower` meets its contract: the answer of `lower` comes apart into a number, counts and a place.
-use borrow.Author.Rules.{rules}
 use Rattle.sva_c.proofs.Laws.{listed_for_c, refused_for_c}
 use Rattle.sva_c.proofs.sva_lower.Goals as goal
 

@@ -1,5 +1,4 @@
 -- `sva_matches` meets its contract: the answer of `matches` comes apart into a number, the ticks and a place.
-use borrow.Author.Rules.{rules}
 use Rattle.sva_c.proofs.Laws.{matched_for_c, not_matched_for_c}
 use Rattle.sva_c.proofs.sva_matches.Goals as goal
 

@@ -1,5 +1,4 @@
 -- `sva_stretch` meets its contract: what `start` and `stretch` of the crate `stretch` find.
-use borrow.Author.Rules.{rules}
 use Rattle.sva_c.proofs.Laws.{stretched_for_c}
 use Rattle.sva_c.proofs.sva_stretch.Goals as goal
 

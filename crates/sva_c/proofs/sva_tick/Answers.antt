@@ -1,5 +1,4 @@
 -- `sva_tick` meets its contract: the answer of `tick` comes apart into a number, the match bit and a place.
-use borrow.Author.Rules.{rules}
 use Rattle.sva_c.proofs.Laws.{ticked_for_c, not_ticked_for_c}
 use Rattle.sva_c.proofs.sva_tick.Goals as goal
 

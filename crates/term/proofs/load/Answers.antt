@@ -1,6 +1,5 @@
 -- `load` reads the five words of a step.
 use Rattle.term.specs.Steps.{step_at}
-use borrow.Author.Rules.{rules}
 use Rattle.term.proofs.load.Goals as goal
 
 pub returns : goal.returns

@@ -1,6 +1,5 @@
 -- `store` puts the five words of a step.
 use Rattle.term.proofs.Round.{all_five}
-use borrow.Author.Rules.{rules}
 use Rattle.term.proofs.store.Goals as goal
 
 pub returns : goal.returns

@@ -1,8 +1,5 @@
 -- The loop copies the bytes one behind the other.
-use borrow.Author.Rules.{rules}
-use Prim.Native.Nat.{◌-◌}
-use lib.ListN.{length}
-use Rattle.words.proofs.Laws.{Copying, copying_begins, copying_on, copying_ends}
+use Rattle.words.proofs.Laws.{copying_begins, copying_on, copying_ends}
 use Rattle.text.proofs.copied.Goals as goal
 
 pub loop-i-init : goal.loop-i-init

@@ -1,8 +1,7 @@
 -- The loop copies the bytes one behind the other.
-use borrow.Author.Rules.{rules}
 use Prim.Native.Nat.{◌-◌}
 use lib.ListN.{length}
-use Rattle.words.proofs.Laws.{Copying, copying_begins, copying_on, copying_ends}
+use Rattle.words.proofs.Laws.{Copying}
 use Rattle.text.proofs.copied.Given as goal
 
 abbrev pub invariant-loop-i : goal.invariant-loop-i

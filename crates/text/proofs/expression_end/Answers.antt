@@ -1,8 +1,5 @@
 -- The loop passes the words that are no store.
-use borrow.Author.Rules.{rules}
-use Prim.Native.Nat.{◌-◌}
-use lib.ListN.{length}
-use Rattle.text.proofs.ListingLines.{Seeking, seeking_begins, seeking_on, seeking_finds, seeking_ends}
+use Rattle.text.proofs.ListingLines.{seeking_begins, seeking_on, seeking_finds, seeking_ends}
 use Rattle.text.proofs.expression_end.Goals as goal
 
 pub loop-i-init : goal.loop-i-init

@@ -1,8 +1,7 @@
 -- The loop passes the words that are no store.
-use borrow.Author.Rules.{rules}
 use Prim.Native.Nat.{◌-◌}
 use lib.ListN.{length}
-use Rattle.text.proofs.ListingLines.{Seeking, seeking_begins, seeking_on, seeking_finds, seeking_ends}
+use Rattle.text.proofs.ListingLines.{Seeking}
 use Rattle.text.proofs.expression_end.Given as goal
 
 abbrev pub invariant-loop-i : goal.invariant-loop-i

@@ -1,7 +1,6 @@
 -- The parts of either first line, one behind the other.
 use native.Mathlib.Omega.{arith}
 use Rattle.text.proofs.Laws.{number_then_byte_end, counts_line, refusal_line}
-use borrow.Author.Rules.{rules}
 use Rattle.text.proofs.first_line.Goals as goal
 
 pub number_then-measured-requires : goal.number_then-measured-requires

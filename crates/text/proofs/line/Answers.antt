@@ -3,7 +3,6 @@ use native.Mathlib.Omega.{arith}
 use Rattle.text.specs.Text.{line_text}
 use Rattle.words.proofs.Laws.{three_parts}
 use Rattle.text.proofs.ListingLines.{line_start_end, tokens_end}
-use borrow.Author.Rules.{rules}
 use Rattle.text.proofs.line.Goals as goal
 
 pub tokens-listed-requires : goal.tokens-listed-requires

@@ -4,7 +4,6 @@ use Rattle.text.specs.Text.{line_start_text}
 use Rattle.words.proofs.Laws.{three_parts}
 use Rattle.text.proofs.Laws.{byte_then_number_end, chosen}
 use Rattle.text.proofs.ListingLines.{tag_end}
-use borrow.Author.Rules.{rules}
 use Rattle.text.proofs.line_start.Goals as goal
 
 pub returns-then-o-eq-MATCH : goal.returns-then-o-eq-MATCH

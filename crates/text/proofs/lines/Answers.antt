@@ -1,8 +1,5 @@
 -- The loop writes a line for each store; the search after each finds the next.
-use borrow.Author.Rules.{rules}
-use Prim.Native.Nat.{◌-◌}
-use lib.ListN.{length}
-use Rattle.text.proofs.ListingLines.{Lining, lining_begins, lining_on, lining_ends}
+use Rattle.text.proofs.ListingLines.{lining_begins, lining_on, lining_ends}
 use Rattle.text.proofs.lines.Goals as goal
 
 pub loop-end-init : goal.loop-end-init

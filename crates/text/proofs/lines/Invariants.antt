@@ -1,8 +1,7 @@
 -- The loop writes a line for each store; the search after each finds the next.
-use borrow.Author.Rules.{rules}
 use Prim.Native.Nat.{◌-◌}
 use lib.ListN.{length}
-use Rattle.text.proofs.ListingLines.{Lining, lining_begins, lining_on, lining_ends}
+use Rattle.text.proofs.ListingLines.{Lining}
 use Rattle.text.proofs.lines.Given as goal
 
 abbrev pub invariant-loop-end : goal.invariant-loop-end

@@ -1,7 +1,6 @@
 -- A number, then a byte.
 use native.Mathlib.Omega.{arith}
 use Rattle.text.proofs.Laws.{digits_end, number_then_byte}
-use borrow.Author.Rules.{rules}
 use Rattle.text.proofs.number_then.Goals as goal
 
 pub put-requires : goal.put-requires

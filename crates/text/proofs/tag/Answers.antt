@@ -1,7 +1,6 @@
 -- Each test of the operation writes its tag.
 use Rattle.text.specs.Text.{tag_text}
 use Rattle.text.proofs.Laws.{chosen}
-use borrow.Author.Rules.{rules}
 use Rattle.text.proofs.tag.Goals as goal
 
 pub returns-then-o-eq-SEQ : goal.returns-then-o-eq-SEQ

@@ -1,5 +1,4 @@
 -- The whole text where there is room for it, and nothing elsewhere.
-use borrow.Author.Rules.{rules}
 use Rattle.text.proofs.Room.{words_stand, page_suffices, text-printed, nothing-printed}
 use Rattle.text.proofs.text.Goals as goal
 

@@ -1,6 +1,5 @@
 -- A byte, then a number.
 use Rattle.text.proofs.Laws.{byte_then_number}
-use borrow.Author.Rules.{rules}
 use Rattle.text.proofs.then_number.Goals as goal
 
 pub returns : goal.returns

@@ -1,7 +1,6 @@
 -- Each test of the operation writes its token.
 use Rattle.text.specs.Text.{token_text}
 use Rattle.text.proofs.Laws.{chosen}
-use borrow.Author.Rules.{rules}
 use Rattle.text.proofs.token.Goals as goal
 
 pub returns-then-o-eq-ATOM : goal.returns-then-o-eq-ATOM

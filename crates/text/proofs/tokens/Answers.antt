@@ -1,8 +1,5 @@
 -- The loop writes a space and a token for each word.
-use borrow.Author.Rules.{rules}
-use Prim.Native.Nat.{◌-◌}
-use lib.ListN.{length}
-use Rattle.text.proofs.ListingLines.{Spelling, spelling_begins, spelling_on, spelling_ends}
+use Rattle.text.proofs.ListingLines.{spelling_begins, spelling_on, spelling_ends}
 use Rattle.text.proofs.tokens.Goals as goal
 
 pub loop-i-init : goal.loop-i-init

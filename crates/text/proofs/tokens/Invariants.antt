@@ -1,8 +1,7 @@
 -- The loop writes a space and a token for each word.
-use borrow.Author.Rules.{rules}
 use Prim.Native.Nat.{◌-◌}
 use lib.ListN.{length}
-use Rattle.text.proofs.ListingLines.{Spelling, spelling_begins, spelling_on, spelling_ends}
+use Rattle.text.proofs.ListingLines.{Spelling}
 use Rattle.text.proofs.tokens.Given as goal
 
 abbrev pub invariant-loop-i : goal.invariant-loop-i

@@ -1,6 +1,5 @@
 -- The first line, then the lines of the listing.
 use Rattle.text.proofs.ListingLines.{listed_part, lines_room, refusal_text, listing-text}
-use borrow.Author.Rules.{rules}
 use Rattle.text.proofs.whole_text.Goals as goal
 
 pub returns-in_default : goal.returns-in_default

@@ -1,8 +1,5 @@
 -- The loop keeps the highest byte, which decides.
-use borrow.Author.Rules.{rules}
-use Prim.Native.Nat.{◌-◌}
-use lib.ListN.{length}
-use Rattle.tick.proofs.Refusals.{Highest, highest_begins, highest_on, highest_decides}
+use Rattle.tick.proofs.Refusals.{highest_begins, highest_on, highest_decides}
 use Rattle.tick.proofs.are_bits.Goals as goal
 
 pub loop-at-init : goal.loop-at-init

@@ -1,8 +1,7 @@
 -- The loop keeps the highest byte, which decides.
-use borrow.Author.Rules.{rules}
 use Prim.Native.Nat.{◌-◌}
 use lib.ListN.{length}
-use Rattle.tick.proofs.Refusals.{Highest, highest_begins, highest_on, highest_decides}
+use Rattle.tick.proofs.Refusals.{Highest}
 use Rattle.tick.proofs.are_bits.Given as goal
 
 abbrev pub invariant-loop-at : goal.invariant-loop-at

@@ -1,6 +1,5 @@
 -- An atom above 1 is told where it is lent.
 use Rattle.tick.proofs.Surveying.{above_one, a_bit, not_lent}
-use borrow.Author.Rules.{rules}
 use Rattle.tick.proofs.bits_with.Goals as goal
 
 pub returns-then-atoms-a-gt1 : goal.returns-then-atoms-a-gt1

@@ -1,8 +1,6 @@
 -- The loop keeps `Evaluating`: what remains gives the rest of the stores and the match bit.
 use borrow.Author.Rules.{rules}
-use Prim.Native.Nat.{◌-◌}
-use lib.ListN.{length}
-use Rattle.tick.proofs.Evaluating.{Evaluating, evaluating_begins, applicable, value_there, room_for-store, store_finds, evaluating_on, evaluating_stored, evaluated_there, never_past}
+use Rattle.tick.proofs.Evaluating.{evaluating_begins, applicable, value_there, room_for-store, store_finds, evaluating_on, evaluating_stored, evaluated_there, never_past}
 use Rattle.tick.proofs.evaluate.Goals as goal
 
 pub loop-at-init : goal.loop-at-init

@@ -1,6 +1,5 @@
 -- The exact check finds the fault that is required to be there.
 use Rattle.tick.proofs.Surveying.{fault_found, never-described}
-use borrow.Author.Rules.{rules}
 use Rattle.tick.proofs.fault.Goals as goal
 
 pub returns-in_default : goal.returns-in_default

@@ -1,6 +1,5 @@
 -- 22 and 23, then the evaluation and the cleared stack.
 use Rattle.tick.proofs.Refusals.{short-tick, part_long, atom_above_one, register_above_one, nothing_refused, evaluated_tick}
-use borrow.Author.Rules.{rules}
 use Rattle.tick.proofs.step.Goals as goal
 
 pub returns-then-lacks : goal.returns-then-lacks

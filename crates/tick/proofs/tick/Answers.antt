@@ -1,6 +1,5 @@
 -- 21 by the pass, the rest by `step`.
 use Rattle.tick.proofs.Refusals.{faulty_undescribed, faulty_tick, whole-described, whole-wanted}
-use borrow.Author.Rules.{rules}
 use Rattle.tick.proofs.tick.Goals as goal
 
 pub fault-requires : goal.fault-requires

@@ -2,7 +2,6 @@
 use Rattle.words.specs.Choice.{tests}
 use Rattle.tick.specs.Stack.{value_of}
 use Rattle.tick.proofs.AppliedWord.{atom-lent, register-lent}
-use borrow.Author.Rules.{rules}
 use Rattle.tick.proofs.value.Goals as goal
 
 pub bounds-atoms-a : goal.bounds-atoms-a

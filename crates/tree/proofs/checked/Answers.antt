@@ -1,7 +1,6 @@
 -- A length that no table has is refused, and any other table checked.
 use Rattle.words.specs.Choice.{tests}
 use Rattle.meaning.specs.Refusals.{table}
-use borrow.Author.Rules.{rules}
 use Rattle.tree.proofs.checked.Goals as goal
 
 pub returns-then-t-ne0 : goal.returns-then-t-ne0

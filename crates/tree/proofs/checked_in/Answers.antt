@@ -1,6 +1,5 @@
 -- The three searches, one after the other, are the table's checks.
 use Rattle.tree.proofs.Checks.{unformed_refused, operands_within, misused_refused, ranges_left}
-use borrow.Author.Rules.{rules}
 use Rattle.tree.proofs.checked_in.Goals as goal
 
 pub returns-in_default : goal.returns-in_default

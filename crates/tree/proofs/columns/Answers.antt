@@ -1,7 +1,6 @@
 -- Each return is one row of the table.
 use Rattle.words.specs.Choice.{tests}
 use Rattle.meaning.specs.Kinds.{columns}
-use borrow.Author.Rules.{rules}
 use Rattle.tree.proofs.columns.Goals as goal
 
 pub returns-then-kind-eq-ATOM : goal.returns-then-kind-eq-ATOM

@@ -1,7 +1,5 @@
 -- One pass over the nodes counts their uses: the loop has those of the nodes below n.
-use borrow.Author.Rules.{rules}
-use Prim.Native.Nat.{◌-◌}
-use Rattle.tree.proofs.Uses.{UsingNodes, using_begins, using_on, using_within, using_ends}
+use Rattle.tree.proofs.Uses.{using_begins, using_on, using_within, using_ends}
 use Rattle.tree.proofs.count_uses.Goals as goal
 
 pub loop-n-init : goal.loop-n-init

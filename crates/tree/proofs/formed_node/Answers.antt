@@ -1,6 +1,5 @@
 -- The tests of the kind and of the words are together refusal 1.
 use Rattle.meaning.specs.Refusals.{formed_node}
-use borrow.Author.Rules.{rules}
 use Rattle.tree.proofs.formed_node.Goals as goal
 
 pub returns : goal.returns

@@ -1,5 +1,4 @@
 -- Each return is the test of one kind of min and max.
-use borrow.Author.Rules.{rules}
 use Rattle.tree.proofs.formed_span.Goals as goal
 
 pub returns-in-Unused : goal.returns-in-Unused

@@ -1,5 +1,4 @@
 -- Each return is the order that one kind of min and max asks for.
-use borrow.Author.Rules.{rules}
 use Rattle.tree.proofs.in_order.Goals as goal
 
 pub returns-in-Range : goal.returns-in-Range

@@ -1,8 +1,5 @@
 -- The loop has found no node below n that the refusal falls on.
-use borrow.Author.Rules.{rules}
-use Prim.Native.Nat.{◌-◌}
-use Rattle.tree.specs.Checks.{passes}
-use Rattle.tree.proofs.Lowest.{Looking, looking_begins, looking_on, fails_here, none_fails}
+use Rattle.tree.proofs.Lowest.{looking_begins, looking_on, fails_here, none_fails}
 use Rattle.tree.proofs.lowest_failing.Goals as goal
 
 pub loop-n-init : goal.loop-n-init

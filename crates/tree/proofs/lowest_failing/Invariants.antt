@@ -1,8 +1,7 @@
 -- The loop has found no node below n that the refusal falls on.
-use borrow.Author.Rules.{rules}
 use Prim.Native.Nat.{◌-◌}
 use Rattle.tree.specs.Checks.{passes}
-use Rattle.tree.proofs.Lowest.{Looking, looking_begins, looking_on, fails_here, none_fails}
+use Rattle.tree.proofs.Lowest.{Looking}
 use Rattle.tree.proofs.lowest_failing.Given as goal
 
 abbrev pub invariant-loop-n : goal.invariant-loop-n

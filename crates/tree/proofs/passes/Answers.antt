@@ -2,7 +2,6 @@
 use Rattle.words.specs.Choice.{tests}
 use Rattle.tree.specs.Checks.{passes}
 use Rattle.tree.proofs.Checks.{passes_1, passes_3}
-use borrow.Author.Rules.{rules}
 use Rattle.tree.proofs.passes.Goals as goal
 
 pub returns-then-refusal-eq2 : goal.returns-then-refusal-eq2

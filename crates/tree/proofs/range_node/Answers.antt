@@ -1,6 +1,5 @@
 -- The order of min and max by their column is refusal 3.
 use Rattle.meaning.specs.Refusals.{range_node}
-use borrow.Author.Rules.{rules}
 use Rattle.tree.proofs.range_node.Goals as goal
 
 pub returns : goal.returns

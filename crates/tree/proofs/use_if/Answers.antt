@@ -1,6 +1,5 @@
 -- What is stored is one use more, up to 2, where it is a use.
 use Rattle.tree.proofs.Uses.{no_operand, used_enough, used_more, operand-within}
-use borrow.Author.Rules.{rules}
 use Rattle.tree.proofs.use_if.Goals as goal
 
 pub returns-then-not-operand : goal.returns-then-not-operand

@@ -1,6 +1,5 @@
 -- The two uses, one after the other, are those of the node.
 use Rattle.tree.proofs.Uses.{left-within, right-within, used_both}
-use borrow.Author.Rules.{rules}
 use Rattle.tree.proofs.use_operands.Goals as goal
 
 pub use_if-requires : goal.use_if-requires

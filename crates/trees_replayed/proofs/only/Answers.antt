@@ -1,7 +1,4 @@
 -- `only` ends: a word less is left each turn.
-use borrow.Author.Rules.{rules}
-use Prim.Native.Nat.{◌-◌}
-use lib.ListN.{length}
 use Rattle.trees_replayed.proofs.only.Goals as goal
 
 pub loop-i-init : goal.loop-i-init

@@ -1,5 +1,4 @@
 -- `only` ends: a word less is left each turn.
-use borrow.Author.Rules.{rules}
 use Prim.Native.Nat.{◌-◌}
 use lib.ListN.{length}
 use Rattle.trees_replayed.proofs.only.Given as goal

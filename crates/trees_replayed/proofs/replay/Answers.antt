@@ -1,7 +1,4 @@
 -- `replay` stays inside the input: less of it is left each turn.
-use borrow.Author.Rules.{rules}
-use Prim.Native.Nat.{◌-◌}
-use lib.ListN.{length}
 use Rattle.trees_replayed.proofs.replay.Goals as goal
 
 pub loop-from-init : goal.loop-from-init

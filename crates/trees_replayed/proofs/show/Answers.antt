@@ -3,7 +3,6 @@ use mathlib.Core.Path.{sym}
 use Prim.Native.Nat.{ℕ}
 use lib.ListN.{length-replicate}
 use lib.Seq.{length-take-le}
-use borrow.Author.Rules.{rules}
 use Rattle.text.proofs.Room.{printed_ends_inside}
 use Rattle.trees_replayed.proofs.show.Goals as goal
 

@@ -1,9 +1,7 @@
 -- `all_registers` adds up the registers of one row after the other; what is left is said in `AllRegisters`.
-use borrow.Author.Rules.{rules}
-use Prim.Native.Nat.{◌-◌}
 use Rattle.alternative.proofs.Keeping.{outline_is_there}
 use Rattle.within.proofs.Rows.{two-keepable, rows-pairs}
-use Rattle.within.proofs.RegisterPass.{AllRegisters, all_registers_begin, row_registers-fit, all_registers-fit, all_registers_on, all_registers_end}
+use Rattle.within.proofs.RegisterPass.{all_registers_begin, row_registers-fit, all_registers-fit, all_registers_on, all_registers_end}
 use Rattle.within.proofs.all_registers.Goals as goal
 
 pub count_of-count-requires : goal.count_of-count-requires

@@ -1,9 +1,6 @@
 -- `all_registers` adds up the registers of one row after the other; what is left is said in `AllRegisters`.
-use borrow.Author.Rules.{rules}
 use Prim.Native.Nat.{◌-◌}
-use Rattle.alternative.proofs.Keeping.{outline_is_there}
-use Rattle.within.proofs.Rows.{two-keepable, rows-pairs}
-use Rattle.within.proofs.RegisterPass.{AllRegisters, all_registers_begin, row_registers-fit, all_registers-fit, all_registers_on, all_registers_end}
+use Rattle.within.proofs.RegisterPass.{AllRegisters}
 use Rattle.within.proofs.all_registers.Given as goal
 
 abbrev pub invariant-loop-i : goal.invariant-loop-i

@@ -1,5 +1,4 @@
 -- `beside` keeps an alternative of seq1 behind the row's; its window leaves the delays.
-use borrow.Author.Rules.{rules}
 use Rattle.within.proofs.Rows.{pair_made}
 use Rattle.within.proofs.beside.Goals as goal
 

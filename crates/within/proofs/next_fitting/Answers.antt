@@ -1,7 +1,5 @@
 -- `next_fitting` passes over windows that are too long; what is left of them is said in `Looking`.
-use borrow.Author.Rules.{rules}
-use Prim.Native.Nat.{◌-◌}
-use Rattle.within.proofs.Windows.{Looking, looking_begins, looking_on, looking_found, looking_ends}
+use Rattle.within.proofs.Windows.{looking_begins, looking_on, looking_found, looking_ends}
 use Rattle.within.proofs.next_fitting.Goals as goal
 
 pub loop-i-init : goal.loop-i-init

@@ -1,7 +1,6 @@
 -- `next_fitting` passes over windows that are too long; what is left of them is said in `Looking`.
-use borrow.Author.Rules.{rules}
 use Prim.Native.Nat.{◌-◌}
-use Rattle.within.proofs.Windows.{Looking, looking_begins, looking_on, looking_found, looking_ends}
+use Rattle.within.proofs.Windows.{Looking}
 use Rattle.within.proofs.next_fitting.Given as goal
 
 abbrev pub invariant-loop-i : goal.invariant-loop-i

@@ -1,10 +1,9 @@
 -- `pairs_registers` adds up the registers of one pair after the other; what is left is said in `PairRegisters`.
 use borrow.Author.Rules.{rules}
-use Prim.Native.Nat.{◌-◌}
 use Rattle.alternative.proofs.Keeping.{outline_is_there}
 use Rattle.within.proofs.Windows.{windows_there, windows_still, rowing_still, fits_here, falls}
 use Rattle.within.proofs.KeptPairs.{beside-delays}
-use Rattle.within.proofs.RegisterPass.{PairRegisters, pair_registers_begin, pair_registers-fit, pair_registers_on, pair_registers_end, pair_registers_small}
+use Rattle.within.proofs.RegisterPass.{pair_registers_begin, pair_registers-fit, pair_registers_on, pair_registers_end, pair_registers_small}
 use Rattle.within.proofs.pairs_registers.Goals as goal
 
 pub count_of-count-requires : goal.count_of-count-requires

@@ -1,10 +1,6 @@
 -- `pairs_registers` adds up the registers of one pair after the other; what is left is said in `PairRegisters`.
-use borrow.Author.Rules.{rules}
 use Prim.Native.Nat.{◌-◌}
-use Rattle.alternative.proofs.Keeping.{outline_is_there}
-use Rattle.within.proofs.Windows.{windows_there, windows_still, rowing_still, fits_here, falls}
-use Rattle.within.proofs.KeptPairs.{beside-delays}
-use Rattle.within.proofs.RegisterPass.{PairRegisters, pair_registers_begin, pair_registers-fit, pair_registers_on, pair_registers_end, pair_registers_small}
+use Rattle.within.proofs.RegisterPass.{PairRegisters}
 use Rattle.within.proofs.pairs_registers.Given as goal
 
 abbrev pub invariant-loop-j : goal.invariant-loop-j

@@ -1,5 +1,4 @@
 -- `plus` adds both parts.
-use borrow.Author.Rules.{rules}
 use Rattle.within.specs.AllSizes.{plus}
 use Rattle.within.proofs.plus.Goals as goal
 

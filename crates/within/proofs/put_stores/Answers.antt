@@ -1,10 +1,9 @@
 -- `put_stores` writes the assignments of one row after the other; what is left is said in `AllStores`.
 use borrow.Author.Rules.{rules}
-use Prim.Native.Nat.{◌-◌}
 use Rattle.alternative.proofs.Keeping.{outline_is_there}
 use Rattle.within.proofs.Rows.{two-keepable, rows-pairs}
 use Rattle.within.proofs.Numbering.{row-placed, row_pairs_small}
-use Rattle.within.proofs.StorePass.{AllStores, all_stores_begin, row_own_room, row_pairs_room, all_stores_on, all_stores_end}
+use Rattle.within.proofs.StorePass.{all_stores_begin, row_own_room, row_pairs_room, all_stores_on, all_stores_end}
 use Rattle.within.proofs.put_stores.Goals as goal
 
 pub count_of-count-requires : goal.count_of-count-requires

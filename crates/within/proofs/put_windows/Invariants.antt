@@ -1,8 +1,6 @@
 -- `put_windows` keeps one alternative of seq1 after the other and measures it; the windows put are said in `Measuring`.
-use borrow.Author.Rules.{rules}
 use Prim.Native.Nat.{◌-◌}
-use Rattle.alternative.proofs.Keeping.{outline_is_there, keepable_again}
-use Rattle.within.proofs.Windows.{Measuring, measuring_begins, measuring_place, measuring_on, measuring_ends}
+use Rattle.within.proofs.Windows.{Measuring}
 use Rattle.within.proofs.put_windows.Given as goal
 
 abbrev pub invariant-loop-j : goal.invariant-loop-j

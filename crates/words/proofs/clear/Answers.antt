@@ -1,8 +1,5 @@
 -- `clear` sets one word after the other to 0; how many are is said in `Clearing`.
-use borrow.Author.Rules.{rules}
-use Prim.Native.Nat.{◌-◌}
-use lib.ListN.{length}
-use Rattle.words.proofs.Laws.{Clearing, clearing_begins, clearing_on, clearing_ends}
+use Rattle.words.proofs.Laws.{clearing_begins, clearing_on, clearing_ends}
 use Rattle.words.proofs.clear.Goals as goal
 
 pub loop-i-init : goal.loop-i-init

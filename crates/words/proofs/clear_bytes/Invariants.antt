@@ -1,8 +1,7 @@
 -- `clear_bytes` sets one byte after the other to 0; how many are is said in `Clearing`.
-use borrow.Author.Rules.{rules}
 use Prim.Native.Nat.{◌-◌}
 use lib.ListN.{length}
-use Rattle.words.proofs.Laws.{Clearing, clearing_begins, clearing_on, clearing_ends}
+use Rattle.words.proofs.Laws.{Clearing}
 use Rattle.words.proofs.clear_bytes.Given as goal
 
 abbrev pub invariant-loop-i : goal.invariant-loop-i

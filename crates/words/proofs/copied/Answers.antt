@@ -1,8 +1,5 @@
 -- `copied` puts one word after the other; what is left of them is said in `Copying`.
-use Prim.Native.Nat.{◌-◌}
-use borrow.Author.Rules.{rules}
-use lib.ListN.{length}
-use Rattle.words.proofs.Laws.{Copying, copying_begins, copying_on, copying_ends}
+use Rattle.words.proofs.Laws.{copying_begins, copying_on, copying_ends}
 use Rattle.words.proofs.copied.Goals as goal
 
 pub loop-i-init : goal.loop-i-init

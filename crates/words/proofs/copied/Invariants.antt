@@ -1,8 +1,7 @@
 -- `copied` puts one word after the other; what is left of them is said in `Copying`.
 use Prim.Native.Nat.{◌-◌}
-use borrow.Author.Rules.{rules}
 use lib.ListN.{length}
-use Rattle.words.proofs.Laws.{Copying, copying_begins, copying_on, copying_ends}
+use Rattle.words.proofs.Laws.{Copying}
 use Rattle.words.proofs.copied.Given as goal
 
 abbrev pub invariant-loop-i : goal.invariant-loop-i

@@ -1,8 +1,5 @@
 -- `planted` puts one node after the other; what is left of them is said in `Planting`.
-use Prim.Native.Nat.{◌-◌}
-use lib.ListN.{length}
-use Rattle.frame.proofs.AssertionLaws.{Planting, planting_begins, room_for_a_node, planting_on, planting_ends}
-use borrow.Author.Rules.{rules}
+use Rattle.frame.proofs.AssertionLaws.{planting_begins, room_for_a_node, planting_on, planting_ends}
 use Rattle.frame.proofs.assertions.planted.Goals as goal
 
 pub loop-n-init : goal.loop-n-init

@@ -1,8 +1,7 @@
 -- `planted` puts one node after the other; what is left of them is said in `Planting`.
 use Prim.Native.Nat.{◌-◌}
 use lib.ListN.{length}
-use Rattle.frame.proofs.AssertionLaws.{Planting, planting_begins, room_for_a_node, planting_on, planting_ends}
-use borrow.Author.Rules.{rules}
+use Rattle.frame.proofs.AssertionLaws.{Planting}
 use Rattle.frame.proofs.assertions.planted.Given as goal
 
 abbrev pub invariant-loop-n : goal.invariant-loop-n

@@ -1,6 +1,5 @@
 -- `tree_of` puts the tree of the number.
 use Rattle.frame.proofs.AssertionLaws.{hot_kept-fits, good_replaced-fits, wrong_in_row-fits, wrong_at_start-fits, first_tree, second_tree, third_tree, fourth_tree}
-use borrow.Author.Rules.{rules}
 use Rattle.frame.proofs.assertions.tree_of.Goals as goal
 
 pub planted-requires : goal.planted-requires

@@ -1,6 +1,5 @@
 -- `at` has all atoms, in their order.
 use Rattle.frame.proofs.AtomLaws.{all_atoms}
-use borrow.Author.Rules.{rules}
 use Rattle.frame.proofs.atoms.at.Goals as goal
 
 pub returns : goal.returns

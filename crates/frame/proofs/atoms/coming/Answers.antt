@@ -2,7 +2,6 @@
 use Rattle.words.specs.Choice.{tests}
 use Rattle.frame.specs.Atoms.{coming_atoms}
 use Rattle.frame.proofs.AtomLaws.{coming_told}
-use borrow.Author.Rules.{rules}
 use Rattle.frame.proofs.atoms.coming.Goals as goal
 
 pub returns-then-tick-ge-FRAME : goal.returns-then-tick-ge-FRAME

@@ -2,7 +2,6 @@
 use Rattle.words.specs.Choice.{tests}
 use Rattle.frame.specs.Atoms.{going_atoms}
 use Rattle.frame.proofs.AtomLaws.{nothing_goes, kept_goes, replaced_goes}
-use borrow.Author.Rules.{rules}
 use Rattle.frame.proofs.atoms.going.Goals as goal
 
 pub returns-then-tick-lt-DELAY : goal.returns-then-tick-lt-DELAY

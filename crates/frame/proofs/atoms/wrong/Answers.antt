@@ -1,6 +1,5 @@
 -- `wrong` compares a value with what is to leave.
 use Rattle.frame.proofs.AtomLaws.{wrong_told}
-use borrow.Author.Rules.{rules}
 use Rattle.frame.proofs.atoms.wrong.Goals as goal
 
 pub returns : goal.returns

@@ -1,20 +1,8 @@
--- Two words compared byte by byte from the front, what a command line asks for, and how far a call may have moved.
-use mathlib.Core.Bool.{Bool, true, false}
-use mathlib.Core.Path.{◌≡◌, refl, sym, ap, ◌∙◌}
-use mathlib.Core.List.{List, [], ◌∷◌}
-use Prim.Native.Nat.{ℕ, suc, ◌+◌, ◌<◌, ◌≤◌}
-use native.Mathlib.Omega.{arith}
-use borrow.Author.Tests.{le-ltb, eq-eqb, ne_eqb}
-use lib.Dec.{eqb}
-use lib.ListN.{length, get_or, drop, drop_of_length-le}
-use Rattle.words.specs.Choice.{pick_true, pick_false, pick_yes, pick_no, pick_case}
-use Rattle.words.proofs.Laws.{drop_here}
-use Rattle.tool.specs.declared.Request.{Request}
-use Rattle.tool.specs.declared.Request.TheVariants.{Help, Unknown}
-use Rattle.tool.specs.declared.Moved.{Moved}
-use Rattle.tool.specs.declared.Moved.TheVariants.{Bytes, Failed}
-use Rattle.tool.specs.Request.{same_bytes, help_word, asked_by}
-use Rattle.tool.specs.Moved.{Within}
+-- Two words compared byte by byte from the front; and the two ends of a program.
+use Rattle.std.proofs.Common.{◌≡◌, refl, sym, ap, ◌∙◌, Bool, true, false, List, [], ◌∷◌, ℕ, suc, ◌+◌, ◌<◌, ◌≤◌, arith, length, get_or, drop, drop-cons, eq-eqb, ne_eqb, eqb, add-one, ◌⊎◌, inl, inr}
+use Rattle.std.proofs.lemmas.List.{drop_all}
+use Rattle.words.specs.Choice.{pick_true, pick_false, pick_case}
+use Rattle.tool.specs.Request.{same_bytes, status_after}
 
 -- Words of different lengths differ.
 pub longer_differs : (a b : List ℕ) → (length a ≡ length b → ⊥) → false ≡ same_bytes a b
@@ -37,7 +25,7 @@ comparing_begins a b e = record { as_long = e; inside = omega arith; rest = refl
 module _ {a b : List ℕ} {i : ℕ} (c : Comparing a b i) where
   -- The next two bytes stand before the others.
   here : i < length a → same_bytes a b ≡ same_bytes (get_or a i 0 ∷ drop (i + 1) a) (get_or b i 0 ∷ drop (i + 1) b)
-  here h = c.rest ∙ rw (drop_here a i h, drop_here b i (omega (arith, c.as_long))) refl
+  here h = c.rest ∙ rw (drop-cons a i 0 h, drop-cons b i 0 (omega (arith, c.as_long)), add-one) refl
 
   pub comparing_on : i < length a → get_or a i 0 ≡ get_or b i 0 → Comparing a b (i + 1)
   unfolding same_bytes
@@ -49,27 +37,10 @@ module _ {a b : List ℕ} {i : ℕ} (c : Comparing a b i) where
 
   pub comparing_ends : length a ≤ i → true ≡ same_bytes a b
   unfolding same_bytes
-  comparing_ends h = sym (c.rest ∙ rw (drop_of_length-le a {i = i} h, drop_of_length-le b {i = i} (omega (arith, c.as_long))) refl)
+  comparing_ends h = sym (c.rest ∙ rw (drop_all i a h, drop_all i b (omega (arith, c.as_long))) refl)
 
--- The two returns of `asked_by` for a command line of two words.
-module _ {words : ℕ} {b : Bool} (first : List ℕ) (some : 2 ≤ words) (two : words ≡ 2) (told : b ≡ same_bytes first help_word) where
-  pub asks_for_help : b ≡ true → Help ≡ asked_by words first
-  unfolding asked_by
-  asks_for_help e = pick_no _ (le-ltb _ _ some) (pick_yes _ (eq-eqb _ _ two) (pick_yes _ (sym told ∙ e) refl))
-
-  pub asks_for_another : b ≡ false → Unknown ≡ asked_by words first
-  unfolding asked_by
-  asks_for_another e = pick_no _ (le-ltb _ _ some) (pick_yes _ (eq-eqb _ _ two) (pick_no _ (sym told ∙ e) refl))
-
--- A number of bytes is within a length that it does not exceed, and a failure within any.
-pub bytes-within : {n most : ℕ} → n ≤ most → Within (Bytes n) most
-unfolding Within
-bytes-within h = h
-
-pub failure_within : (most : ℕ) → Within Failed most
-unfolding Within
-failure_within most = tt
-
-pub moved_within : (most : ℕ) {m : Moved} {n : ℕ} → Within m most → m ≡ Bytes n → n ≤ most
-unfolding Within
-moved_within most w e = rw e at w
+-- A program ends with its own status or with 2.
+pub ends_so : {status : ℕ} (written : Bool) {r : ℕ} → r ≡ status_after written status → (r ≡ status) ⊎ (r ≡ 2)
+unfolding status_after
+ends_so true e = inl (e ∙ pick_true _ _ refl)
+ends_so false e = inr (e ∙ pick_false _ _ refl)

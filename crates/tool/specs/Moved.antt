@@ -6,4 +6,4 @@ use Rattle.tool.specs.declared.Moved.TheVariants.{Bytes, Failed}
 -- No more than there are.
 unfoldable pub Within : Moved → ℕ → Type 0
 Within (Bytes n) most = n ≤ most
-Within Failed most = Unit {0}
+Within (Failed why) most = Unit {0}

@@ -4,11 +4,13 @@
 // Example: of `sva_list --help` the command line has two words, the second of which is "--help"; that is Request::Help.
 #![tactic(auto)]
 
-ghost use Rattle.std.specs.Prelude.{◌≡◌, length};
+ghost use Rattle.std.specs.Prelude.{◌≡◌, ◌⊎◌, ◌≤◌, IfOk, is_ok, length};
 ghost use Rattle.tool.specs.Request.{same_bytes, asked_by, status_after};
 ghost use Rattle.tool.specs.Moved.{Within};
 
-use libc::{STDERR_FILENO, STDIN_FILENO, STDOUT_FILENO};
+use std::env::{Env, FillError};
+use std::io::{Error, ErrorKind, Read};
+use std::{fmt, io};
 
 // What a command line asks for.
 #[derive(Clone, Copy)]
@@ -18,11 +20,11 @@ pub enum Request {
     Unknown,
 }
 
-// What reading or writing came to. Where it failed, errno says why.
+// What reading or writing came to. Where it failed, the error says why.
 #[derive(Clone, Copy)]
 pub enum Moved {
     Bytes(usize),
-    Failed,
+    Failed(Error),
 }
 
 // The status where the input or the output failed, or the command line is unknown.
@@ -31,7 +33,24 @@ pub const FAILED: u32 = 2;
 // How often a call is made again that a signal interrupts.
 const PATIENCE: u32 = 1000000;
 
+// Bytes shown as text, and U+FFFD in the place of those that are none.
+#[derive(Drop)]
+struct Shown<'a>(&'a [u8]);
+
+impl fmt::Display for Shown<'_> {
+    fn fmt<W: fmt::Write>(&self, f: &mut fmt::Formatter<W>) -> fmt::Result {
+        for chunk in self.0.utf8_chunks() {
+            f.write_str(chunk.valid())?;
+            if !chunk.invalid().is_empty() {
+                f.write_str("\u{FFFD}")?;
+            }
+        }
+        Ok(())
+    }
+}
+
 // Whether the two hold the same bytes.
+#[tactic(auto, using(crate::proofs::Laws::longer_differs, crate::proofs::Laws::comparing_begins, crate::proofs::Laws::comparing_on, crate::proofs::Laws::comparing_differs, crate::proofs::Laws::comparing_ends))]
 fn same(a: &[u8], b: &[u8]) -> bool
     ensures { result ≡ same_bytes a.now b.now }
 {
@@ -49,6 +68,7 @@ fn same(a: &[u8], b: &[u8]) -> bool
 }
 
 // What a command line of so many words asks for, the program's name among them, of which `first` is the one behind the name.
+#[tactic(auto, using(words::specs::Choice::tests), unfolding(crate::specs::Request::asked_by))]
 pub fn asked_by(words: usize, first: &[u8]) -> Request
     ensures { result ≡ asked_by words first.now }
 {
@@ -64,53 +84,76 @@ pub fn asked_by(words: usize, first: &[u8]) -> Request
     Request::Unknown
 }
 
+// Whether the program's own command line has a word at the place.
+fn has_word(env: &impl Env, place: usize) -> bool {
+    let mut first = [0u8; 1];
+    !matches!(env.arg(place, &mut first), Err(FillError::NotPresent))
+}
+
+// How many words the program's own command line has, or 3 where it has more.
+fn words(env: &impl Env) -> usize {
+    for place in 0..3 {
+        if !has_word(env, place) {
+            return place;
+        }
+    }
+    3
+}
+
 // What the program's own command line asks for. A word that is longer than "--help" is taken for an empty one.
-pub fn asked() -> Request {
+pub fn asked(env: &impl Env) -> Request {
     let mut first = [0u8; 6];
-    let length = os::arg(1, &mut first);
-    asked_by(os::arg_count(), &first[..length])
+    match env.arg(1, &mut first) {
+        Ok(length) => asked_by(words(env), &first[..length]),
+        Err(_) => asked_by(words(env), b""),
+    }
 }
 
 // Whether a call of the system was interrupted by a signal before it moved a byte.
-fn interrupted(got: isize) -> bool {
-    if 0 <= got {
-        return false;
+fn interrupted(got: &io::Result<usize>) -> bool {
+    match got {
+        Ok(_) => false,
+        Err(why) => why.kind() == ErrorKind::Interrupted,
     }
-    os::errno() == libc::EINTR
 }
 
 // What the system's answer says of a part.
-fn answered(got: isize, part: &[u8]) -> Moved
+#[tactic(auto, unfolding(crate::specs::Moved::Within))]
+fn answered(got: io::Result<usize>, part: &[u8]) -> Moved
+    requires { IfOk got (λ count. count ≤ length part.now) }
     ensures { Within result (length part.now) }
 {
-    if got < 0 {
-        return Moved::Failed;
+    match got {
+        Ok(count) => Moved::Bytes(count),
+        Err(why) => Moved::Failed(why),
     }
-    Moved::Bytes(io::count(got, part))
 }
 
-// Some bytes of standard input, at the front of `part`; none at its end.
-fn read_some(part: &mut [u8]) -> Moved
+// Some bytes of the input, at the front of `part`; none at its end.
+fn read_some<R: Read>(input: &mut R, part: &mut [u8]) -> Moved
     ensures { Within result (length part.new) }
 {
-    for _ in 0..PATIENCE {
-        let got = libc::read(STDIN_FILENO, part);
-        if !interrupted(got) {
-            return answered(got, part);
+    let mut got = input.read(part);
+    for _ in 1..PATIENCE {
+        if !interrupted(&got) {
+            break;
         }
+        got = input.read(part);
     }
-    Moved::Failed
+    answered(got, part)
 }
 
 // Standard input up to its end, or as much of it as `room` holds, at the front of `room`.
-pub fn read(room: &mut [u8]) -> Moved
+#[tactic(auto, unfolding(crate::specs::Moved::Within))]
+pub fn read(rt: &impl Input, room: &mut [u8]) -> Moved
     ensures { Within result (length room.new) }
 {
+    let mut input = rt.reader();
     let mut done = 0;
     while done < room.len() {
-        let some = read_some(&mut room[done..]);
+        let some = read_some(&mut input, &mut room[done..]);
         let Moved::Bytes(count) = some else {
-            return Moved::Failed;
+            return some;
         };
         if count == 0 {
             return Moved::Bytes(done);
@@ -121,54 +164,70 @@ pub fn read(room: &mut [u8]) -> Moved
 }
 
 // Some bytes from the front of `part` on, to standard output.
-fn write_some(part: &[u8]) -> Moved
+fn write_some(rt: &impl Print, part: &[u8]) -> Moved
     ensures { Within result (length part.now) }
 {
-    for _ in 0..PATIENCE {
-        let got = libc::write(STDOUT_FILENO, part);
-        if !interrupted(got) {
-            return answered(got, part);
+    let mut got = rt.write_some(part);
+    for _ in 1..PATIENCE {
+        if !interrupted(&got) {
+            break;
         }
+        got = rt.write_some(part);
     }
-    Moved::Failed
+    answered(got, part)
 }
 
-// All of the text to standard output; whether every byte is out.
-pub fn write(text: &[u8]) -> bool {
+// All of the text to standard output: `Ok` once every byte is out. Where it fails, the bytes before the failure are out.
+#[tactic(auto, unfolding(crate::specs::Moved::Within))]
+pub fn write(rt: &impl Print, text: &[u8]) -> io::Result<()> {
     let mut done = 0;
     while done < text.len() {
-        let some = write_some(&text[done..]);
-        let Moved::Bytes(count) = some else {
-            return false;
-        };
-        if count == 0 {
-            return false;
+        match write_some(rt, &text[done..]) {
+            Moved::Bytes(0) => return Err(Error::from(ErrorKind::WriteZero)),
+            Moved::Bytes(count) => done += count,
+            Moved::Failed(why) => return Err(why),
         }
-        done += count;
     }
-    true
+    Ok(())
 }
 
 // The status with which a program ends: its own where its output is out.
+#[tactic(auto, using(words::specs::Choice::tests), unfolding(crate::specs::Request::status_after))]
 pub fn status_after(written: bool, status: u32) -> u32
     ensures { result ≡ status_after written status }
 {
     if written { status } else { FAILED }
 }
 
-// The text to standard output, and the status; a line on standard error, which `output` begins, where it fails.
-pub fn put_out(text: &[u8], output: &[u8], status: u32) -> u32 {
-    let written = write(text);
-    if !written {
-        os::fail(output);
+// A line on standard error: what failed, and why.
+pub fn tell(rt: &impl Eprint, what: &[u8], why: Error) {
+    let what = Shown(what);
+    let _ = eprintln!(rt; "{what}: {why}");
+}
+
+// The status with which a program ends, by what its output came to; a line on standard error, which `output` begins, where it failed.
+pub fn ended(rt: &impl Eprint, written: io::Result<()>, output: &[u8], status: u32) -> u32
+    ensures { result ≡ status_after (is_ok written) status }
+{
+    if let Err(why) = written {
+        tell(rt, output, why);
     }
-    status_after(written, status)
+    status_after(written.is_ok(), status)
+}
+
+// The text to standard output, and the status; a line on standard error, which `output` begins, where it fails.
+#[tactic(auto, using(crate::proofs::Laws::ends_so))]
+pub fn put_out(rt: &(impl Print + Eprint), text: &[u8], output: &[u8], status: u32) -> u32
+    ensures { (result ≡ status) ⊎ (result ≡ 2) }
+{
+    ended(rt, write(rt, text), output, status)
 }
 
 // How the program is started, on standard error, for a command line that is unknown.
-pub fn put_usage(usage: &[u8]) -> u32
+pub fn put_usage(rt: &impl Eprint, usage: &[u8]) -> u32
     ensures { result ≡ 2 }
 {
-    io::write_all(STDERR_FILENO, usage);
+    let usage = Shown(usage);
+    let _ = eprint!(rt; "{usage}");
     FAILED
 }

@@ -1,8 +1,6 @@
 -- The loop compares byte by byte.
-use Prim.Native.Nat.{◌-◌}
-use lib.ListN.{length}
-use Rattle.tool.proofs.Laws.{longer_differs, Comparing, comparing_begins, comparing_on, comparing_differs, comparing_ends}
-use borrow.Author.Rules.{rules}
+use Rattle.std.proofs.Common.{length, ◌-◌}
+use Rattle.tool.proofs.Laws.{Comparing}
 use Rattle.tool.proofs.same.Given as goal
 
 abbrev pub invariant-loop-i : goal.invariant-loop-i

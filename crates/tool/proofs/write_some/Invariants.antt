@@ -1,11 +1,6 @@
--- The loop counts the interruptions; what is written is within the part.
-use Prim.Native.Nat.{◌-◌, ◌≤◌}
-use Rattle.tool.proofs.Laws.{failure_within}
-use borrow.Author.Rules.{rules}
+-- What is counted is within the part.
+use Rattle.std.proofs.Common.{◌≤◌, IfOk, length}
 use Rattle.tool.proofs.write_some.Given as goal
 
 abbrev pub invariant-loop : goal.invariant-loop
-invariant-loop l = l.counter ≤ 1000000
-
-abbrev pub decreases-loop : goal.decreases-loop
-decreases-loop l = 1000000 - l.counter
+invariant-loop g l = IfOk l.got (λ count. count ≤ length l.part)

@@ -1,6 +1,9 @@
-// The camera as the gate runs it: with no exit status, since a program of the language has none.
+// The camera's program: its status becomes the exit status.
 #![tactic(auto)]
 
-fn main() {
-    camera_program::camera_main();
+use std::process::ExitCode;
+
+fn main(rt: HostRuntime) -> ExitCode {
+    let status = camera_program::camera_main(&rt);
+    ExitCode::from(status as u8)
 }

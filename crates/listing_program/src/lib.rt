@@ -32,6 +32,7 @@ fn print(rt: &(impl Print + Eprint), input: &[u8]) -> u32
 }
 
 // The text of the tree on standard input. One byte more than a tree may have is read, so that a longer input is seen to be longer.
+#[tactic(auto, unfolding(tool::specs::Moved::Within))]
 fn list(rt: &(impl Input + Print + Eprint)) -> u32
     ensures { result ≤ 2 }
 {

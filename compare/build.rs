@@ -1,7 +1,7 @@
 //! Brings three things together: the original's files, which stay where they are; this project's archive; and three files in C.
 //!
 //! `SVA_SOURCE` is a folder with the original somewhere below it; it has to be set. `SVA_LIB` is the folder of `libsva_c.a`, and need not be set where
-//! `rt staticlib sva_c` wrote it. Both are relative to this folder.
+//! `programs/archive` wrote it. Both are relative to this folder.
 use std::env;
 use std::fs;
 use std::path::{Path, PathBuf};
@@ -64,7 +64,7 @@ fn found(folder: &Path, name: &str) -> Option<PathBuf> {
 fn link_archive(library: &Path) {
     let archive = library.join("libsva_c.a");
     if !archive.is_file() {
-        eprintln!("There is no {}: `rt staticlib sva_c` makes it, or SVA_LIB names another folder that has it.", archive.display());
+        eprintln!("There is no {}: `programs/archive` makes it, or SVA_LIB names another folder that has it.", archive.display());
         exit(1);
     }
     println!("cargo:rerun-if-changed={}", archive.display());

@@ -1,7 +1,7 @@
 /* Lowers `a ##1 b`, steps it over a few ticks, looks its register up, matches it over the same ticks, and has one tree refused. Status 0 where all went as it
  * should, 1 where a tree was not answered so, 2 where the output failed. From the repository's root:
  *
- *   rt staticlib sva_c && gcc -std=c11 -Wall -Wextra -Iinclude examples/use_sva.c target/staticlib/libsva_c.a -o target/use_sva && target/use_sva
+ *   programs/archive && gcc -std=c11 -Wall -Wextra -Iinclude examples/use_sva.c target/staticlib/libsva_c.a -o target/use_sva && target/use_sva
  *
  * SPDX-License-Identifier: MIT OR Apache-2.0
  */

@@ -1,6 +1,6 @@
-// Lowering, ticking, looking a register up and matching recorded ticks, for programs in C: `include/sva.h` declares the four functions, and
-// `examples/use_sva.c` calls them. No function asks anything of its caller but that its pointers are good and that what it
-// writes is lent once.
+// Lowering, ticking, looking a register up and matching recorded ticks, as programs in C see them: `include/sva.h` declares the four
+// functions, `sva_c_c` exports them, and `examples/use_sva.c` calls them. No function asks anything of its caller but that its pointers are
+// good and that what it writes is lent once.
 //
 // An answer that is an enum becomes a number, 0 where nothing was refused, and its values go to where the caller points.
 // Example: for the words of `a ##1 b` `sva_lower` returns 0 and stores 1 register, 8 words, a deepest stack of 2, and place 0.
@@ -9,8 +9,7 @@
 ghost use Rattle.sva_c.specs.Boundary.{LowersForC, TicksForC, StretchesForC, MatchesForC};
 
 // Lowers a tree: 0 and the three counts, or a refusal's number and its place.
-#[unsafe(no_mangle)]
-pub extern "C" fn sva_lower(
+pub fn sva_lower(
     tree: &[u32],
     work: &mut [u32],
     out: &mut [u32],
@@ -41,8 +40,7 @@ pub extern "C" fn sva_lower(
 }
 
 // Steps the registers once: 0 and the match bit, or a refusal's number and its place.
-#[unsafe(no_mangle)]
-pub extern "C" fn sva_tick(
+pub fn sva_tick(
     listing: &[u32],
     cur: &[u8],
     atoms: &[u8],
@@ -68,8 +66,7 @@ pub extern "C" fn sva_tick(
 }
 
 // Finds the words that drive a register: how many they are, and the place of the first.
-#[unsafe(no_mangle)]
-pub extern "C" fn sva_stretch(listing: &[u32], register: u32, start: &mut usize) -> usize
+pub fn sva_stretch(listing: &[u32], register: u32, start: &mut usize) -> usize
     ensures { StretchesForC listing.now register result start.new }
 {
     *start = stretch::start(listing, register);
@@ -78,8 +75,7 @@ pub extern "C" fn sva_stretch(listing: &[u32], register: u32, start: &mut usize)
 }
 
 // Matches a tree over recorded ticks: 0 and the ticks, or a refusal's number and its place.
-#[unsafe(no_mangle)]
-pub extern "C" fn sva_matches(
+pub fn sva_matches(
     tree: &[u32],
     rows: &[u8],
     width: usize,

@@ -62,7 +62,12 @@ fn say_verdict(rt: &impl Print, number: u32, verdict: frame::Verdict) -> Result<
 }
 
 // One line: what an assertion said of a map.
-fn report(rt: &impl Print, loaded: Loaded, number: u32, verdict: frame::Verdict) -> Result<(), Error> {
+fn report(
+    rt: &impl Print,
+    loaded: Loaded,
+    number: u32,
+    verdict: frame::Verdict,
+) -> Result<(), Error> {
     say_map(rt, loaded)?;
     say_verdict(rt, number, verdict)?;
     tool::write(rt, b"\n")
@@ -72,15 +77,14 @@ fn report(rt: &impl Print, loaded: Loaded, number: u32, verdict: frame::Verdict)
 fn judge(rt: &impl Print, loaded: Loaded, map: &[u32]) -> Result<(), Error>
     requires { Reached map.now 0 0 }
 {
-    let mut number = 1;
-    while number <= frame::ASSERTIONS {
+    for number in 1..=frame::ASSERTIONS {
         report(rt, loaded, number, frame::watched(map, number))?;
-        number += 1;
     }
     Ok(())
 }
 
 // Every assertion with a map that is in order.
+#[tactic(auto, using(correction::proofs::MapLaws::nothing_reached))]
 fn judge_ordered(rt: &impl Print, loaded: Loaded, map: &[u32]) -> Result<(), Error> {
     if !correction::in_order(map) {
         return tool::write(rt, b" entries, not in order\n");
@@ -106,6 +110,7 @@ fn inspect_each(rt: &impl Print) -> Result<(), Error> {
 }
 
 // All that there is to say of the three maps, and the status.
+#[tactic(auto, using(tool::proofs::Laws::ends_so))]
 fn watch(rt: &(impl Print + Eprint)) -> u32
     ensures { (result ≡ 0) ⊎ (result ≡ 2) }
 {

@@ -10,6 +10,7 @@ ghost use Rattle.listing_program.specs.Status.{status_of};
 use std::env::Env;
 
 // The status of an answer: 0 of a listing, 1 of a refusal.
+#[tactic(auto, unfolding(crate::specs::Status::status_of))]
 pub fn status_of(answer: meaning::Lowered) -> u32
     ensures { result ≡ status_of answer }
 {

@@ -1,8 +1,6 @@
--- What is written out is the part of the page that the text takes.
-use mathlib.Core.Path.{sym}
-use lib.Seq.{length-take-le}
-use borrow.Author.Rules.{rules}
+-- The status of the answer, or that of a lost output.
+use Rattle.listing_program.proofs.Laws.{ends_within}
 use Rattle.listing_program.proofs.print.Goals as goal
 
-pub slice_bounds-put_out-end : goal.slice_bounds-put_out-end
-slice_bounds-put_out-end c = sym (length-take-le _ _ (search rules))
+pub returns : goal.returns
+returns g c = ends_within _ c.status_of-status.ensures c.put_out.ensures

@@ -91,7 +91,7 @@ fn has_word(env: &impl Env, place: usize) -> bool {
 }
 
 // How many words the program's own command line has, or 3 where it has more.
-fn words(env: &impl Env) -> usize {
+fn word_count(env: &impl Env) -> usize {
     for place in 0..3 {
         if !has_word(env, place) {
             return place;
@@ -104,8 +104,8 @@ fn words(env: &impl Env) -> usize {
 pub fn asked(env: &impl Env) -> Request {
     let mut first = [0u8; 6];
     match env.arg(1, &mut first) {
-        Ok(length) => asked_by(words(env), &first[..length]),
-        Err(_) => asked_by(words(env), b""),
+        Ok(length) => asked_by(word_count(env), &first[..length]),
+        Err(_) => asked_by(word_count(env), b""),
     }
 }
 

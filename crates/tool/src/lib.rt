@@ -4,7 +4,7 @@
 // Example: of `sva_list --help` the command line has two words, the second of which is "--help"; that is Request::Help.
 #![tactic(auto)]
 
-ghost use Rattle.std.specs.Prelude.{◌≡◌, ◌⊎◌, ◌≤◌, IfOk, is_ok, length};
+ghost use Rattle.std.specs.Prelude.{◌≡◌, ◌⊎◌, is_ok, length};
 ghost use Rattle.tool.specs.Request.{same_bytes, asked_by, status_after};
 ghost use Rattle.tool.specs.Moved.{Within};
 
@@ -120,11 +120,10 @@ fn interrupted(got: &io::Result<usize>) -> bool {
 // What the system's answer says of a part.
 #[tactic(auto, unfolding(crate::specs::Moved::Within))]
 fn answered(got: io::Result<usize>, part: &[u8]) -> Moved
-    requires { IfOk got (λ count. count ≤ length part.now) }
     ensures { Within result (length part.now) }
 {
     match got {
-        Ok(count) => Moved::Bytes(count),
+        Ok(count) => Moved::Bytes(count.min(part.len())),
         Err(why) => Moved::Failed(why),
     }
 }

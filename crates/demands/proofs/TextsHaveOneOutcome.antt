@@ -8,6 +8,9 @@ use prog.Memory.{Memory}
 use prog.Routine.{Routine}
 use types.Logic.{Logic}
 use contract.Monad.{Fun}
+use denote.RattleType.{RattleType}
+use mir.Syntax.{Dict}
+use Rattle.std.specs.declared.io.Eprint.{Ghosts}
 use Rattle.meaning.specs.declared.Lowered.{Lowered}
 use Rattle.lowered_text.specs.declared.Shown.{Shown}
 use Rattle.lowered_text.specs.Page.{Shows}
@@ -22,6 +25,7 @@ use Rattle.cases.specs.contracts.lesser as lesser
 use Rattle.tool.specs.contracts.asked_by as asked_by
 use Rattle.tool.specs.contracts.status_after as status_after
 use Rattle.tool.specs.contracts.put_usage as put_usage
+use Rattle.tool.specs.contracts.ended as ended
 use Rattle.listing_program.specs.contracts.status_of as status_of
 use Rattle.demands.specs.OneOutcome.{OneOutcome}
 use Rattle.demands.proofs.OneOutcome.{same_outcome, same, from_both, from_all, by_an_equation, by_an_equation_and_a_bound, by_writing, by_writing_and_a_bound}
@@ -67,8 +71,14 @@ module _ {M : Type 1} {𝓤 : Ura M} (𝓛 : Logic 𝓤) (mem : Memory → SProp
   pub tool_status_after_has_one_outcome : OneOutcome 𝓤 status_after.ended (status_after.clauses 𝓛 mem run)
   tool_status_after_has_one_outcome κs a g o o' = by_an_equation 𝓤
 
-  pub tool_put_usage_has_one_outcome : OneOutcome 𝓤 put_usage.ended (put_usage.clauses 𝓛 mem run)
-  tool_put_usage_has_one_outcome κs a g o o' = by_an_equation 𝓤
+  -- What prints may be of any type that can: its contract is the same.
+  pub tool_put_usage_has_one_outcome : (T : RattleType) (prints : Ghosts T.Denot) (dict : Dict)
+      → OneOutcome 𝓤 (put_usage.ended T prints dict) (put_usage.clauses T prints dict 𝓛 mem run)
+  tool_put_usage_has_one_outcome T prints dict κs a g o o' = by_an_equation 𝓤
+
+  pub tool_ended_has_one_outcome : (T : RattleType) (prints : Ghosts T.Denot) (dict : Dict)
+      → OneOutcome 𝓤 (ended.ended T prints dict) (ended.clauses T prints dict 𝓛 mem run)
+  tool_ended_has_one_outcome T prints dict κs a g o o' = by_an_equation 𝓤
 
   pub listing_program_status_of_has_one_outcome : OneOutcome 𝓤 status_of.ended (status_of.clauses 𝓛 mem run)
   listing_program_status_of_has_one_outcome κs a g o o' = by_an_equation 𝓤

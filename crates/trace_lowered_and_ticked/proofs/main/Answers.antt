@@ -5,4 +5,4 @@ use lib.Seq.{length-take-le}
 use Rattle.trace_lowered_and_ticked.proofs.main.Goals as goal
 
 pub slice_bounds-trace-end : goal.slice_bounds-trace-end
-slice_bounds-trace-end c = let w = c.lowered-words in sym (length-take-le w.result w.new.1.0 w.ensures)
+slice_bounds-trace-end c = let w = c.lowered-words in sym (length-take-le w.result w.new.out w.ensures)

@@ -7,4 +7,3 @@
 //
 // Example: for `a ##1 b` and atoms 1,0 then 0,1 then 0,0 the answers are 0, 1, 0, whatever the buffers hold past the registers.
 #![tactic(auto)]
-

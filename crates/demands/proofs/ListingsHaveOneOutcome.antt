@@ -14,7 +14,7 @@ use Rattle.meaning.specs.declared.Ticked.{Ticked}
 use Rattle.tick.specs.Stepped.{Stepped}
 use Rattle.stretch.specs.declared.Reader.{Reader}
 use Rattle.listing.specs.contracts.row as row
-use Rattle.listing.specs.contracts.is_store as is_IsStore
+use Rattle.listing.specs.contracts.is_store as is_store
 use Rattle.listing.specs.contracts.moved as moved
 use Rattle.listing.specs.contracts.note as note
 use Rattle.listing.specs.contracts.ended as ended
@@ -52,7 +52,7 @@ module _ {M : Type 1} {𝓤 : Ura M} (𝓛 : Logic 𝓤) (mem : Memory → SProp
   pub listing_row_has_one_outcome : OneOutcome 𝓤 row.ended (row.clauses 𝓛 mem run)
   listing_row_has_one_outcome κs a g o o' = by_an_equation 𝓤
 
-  pub listing_is_store_has_one_outcome : OneOutcome 𝓤 is_IsStore.ended (is_IsStore.clauses 𝓛 mem run)
+  pub listing_is_store_has_one_outcome : OneOutcome 𝓤 is_store.ended (is_store.clauses 𝓛 mem run)
   listing_is_store_has_one_outcome κs a g o o' = by_an_equation 𝓤
 
   pub listing_moved_has_one_outcome : OneOutcome 𝓤 moved.ended (moved.clauses 𝓛 mem run)

@@ -2,9 +2,10 @@
 //! many as the first argument says: what `sva_lower` answers is what the specification does, and of the listings some ticks and stretches are
 //! taken on the same stack; towers of 64 nodes are matched on it. Ends with the most bytes that a call wrote to.
 //!
-//! Seen with the code compiled for Arm: 64,384 bytes at most. Of the archive for x86-64 before it had the matcher, under an emulator, a
-//! program in C lowered the same trees through `c/small_stack.c`, with one tick and one stretch of each listing: 64,328 bytes at most; with
-//! 61,440 in place of the promised 65,536 a segmentation fault, at the fifth tree.
+//! Seen on x86-64: 47,888 bytes at most. With an older toolchain, and the code compiled for Arm: 64,384 bytes at most. Of that toolchain's
+//! archive for x86-64 before it had the matcher, under an emulator, a program in C lowered the same trees through `c/small_stack.c`, with one
+//! tick and one stretch of each listing: 64,328 bytes at most; with 61,440 in place of the promised 65,536 a segmentation fault, at the fifth
+//! tree.
 use compare::listing::Counts;
 use compare::original::UNLIMITED;
 use compare::rules::{decided, Refusal, ENTRIES};

@@ -3,7 +3,7 @@
 //! A frame is its return address, what the function pushes, and what it takes from the stack pointer. A path passes no function twice, but
 //! for one that calls itself: each such call goes down one node of the tree, and the walk looks at no node deeper than 257, one below the
 //! last that is accepted. Whatever else an instruction does to the stack pointer, a call through a pointer, and a cycle of several
-//! functions end the program; a jump through a register is the table of a `match`, since the language has no pointers to functions.
+//! functions end the program; a jump through a register is the table of a `match`, since no function here is called through a pointer.
 //!
 //! `OBJDUMP` names a disassembler of x86-64, else it is `objdump`.
 use compare::{commands, small_stack};

@@ -3,8 +3,9 @@
 
 usage: tools/respell.py [--list]      at the top of the repository
 
-A word of a name is joined by `_`; a dash is kept where it joins two names of functions, as in `length-written`. Names of src/, strings,
-outputs and names that Rattle makes stay. With --list it prints the table and writes nothing. It stops where two names would fall together.
+A word of a name is joined by `_`; a dash is kept where a law says what a word of the library is of a function, as in `length-written`. Names
+of src/, strings, outputs and names that Rattle makes stay. With --list it prints the table and writes nothing. It stops where two names would
+fall together.
 """
 
 import os
@@ -13,8 +14,8 @@ import sys
 
 NAME = r"[^\s(){}\[\],;:.λ∀`\"]+"
 MADE = {"declared", "Statement", "Tie", "Lts", "Met", "contracts", "Code", "Goals", "Given"}
-# Functions of the library that names of lemmas are made of.
-WORDS = {"length", "take", "drop", "get_or", "append", "map", "set", "sets", "replicate", "reverse", "suc", "nil", "cons", "le", "lt"}
+# Functions of the library that laws here are about.
+WORDS = {"length", "get_or", "take", "drop", "append", "set", "sets", "replicate"}
 USE = re.compile(r"^((?:ghost )?use )([^;{\s]+?)\.\{(.*?)\}", re.M | re.S)
 
 
@@ -74,15 +75,11 @@ def collect(texts, crates):
 
 
 def respelled(name, functions):
-    """`_` between words, and a dash between two names of functions."""
-    parts = name.split("-")
-    known = {f.replace("-", "_") for f in functions} | WORDS
-    if name not in functions:
-        for i in range(len(parts) - 1, 0, -1):
-            first, second = "_".join(parts[:i]), "_".join(parts[i:])
-            if first in known and second in known:
-                return first + "-" + second
-    return "_".join(parts)
+    """`_` between words, and a dash between a word of the library and a function that it is taken of."""
+    first, dash, rest = name.partition("-")
+    rest = rest.replace("-", "_")
+    of_a_function = first in WORDS and (rest in WORDS or rest in {f.replace("-", "_") for f in functions})
+    return first + (dash if name not in functions and of_a_function else "_") + rest
 
 
 def table(root):

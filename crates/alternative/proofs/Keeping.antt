@@ -23,12 +23,12 @@ use Rattle.term.specs.Steps.{steps_words}
 use Rattle.term.specs.Keeping.{step_of, steps_from, guard_of, Stored, Whole}
 use Rattle.term.specs.Guards.{guard_words}
 use Rattle.term.proofs.Round.{same_step}
-use Rattle.term.proofs.Keeping.{stored-words, steps_are, stored-atoms}
+use Rattle.term.proofs.Keeping.{stored_words, steps_are, stored_atoms}
 use Rattle.outline.specs.Outline.{count_in}
-use Rattle.outline.proofs.Readers.{inside-outline}
+use Rattle.outline.proofs.Readers.{inside_outline}
 use Rattle.expand.specs.ByNumber.{alternatives_of, alternative_words, OutlinedNumber}
 use Rattle.expand.proofs.ByKind.{few_alternatives}
-use Rattle.expand.proofs.Every.{has_step, each_expanded, each-nth}
+use Rattle.expand.proofs.Every.{has_step, each_expanded, each_nth}
 use Rattle.expand.proofs.Outlines.{count_known}
 use Rattle.expand.proofs.Room.{size_within_entries, length_of_alternative}
 use Rattle.expand.proofs.SmallAtoms.{small_rehop, an_alternative_has_small_atoms}
@@ -37,10 +37,10 @@ use Rattle.guards.proofs.Room.{length_of_guard}
 use Rattle.alternative.specs.Keeping.{chosen, Keepable, Holds, Keeps}
 
 -- Words put from a place on leave those before it as they were.
-front-stays : (ws o : List ℕ) (at place : ℕ) → at ≤ place → take at (written o place ws) ≡ take at o
+front_stays : (ws o : List ℕ) (at place : ℕ) → at ≤ place → take at (written o place ws) ≡ take at o
 unfolding written
-front-stays [] o at place h = refl
-front-stays (w ∷ ws) o at place h = front-stays ws (set o place w) at (suc place) (omega arith) ∙ take-set-le at o place w h
+front_stays [] o at place h = refl
+front_stays (w ∷ ws) o at place h = front_stays ws (set o place w) at (suc place) (omega arith) ∙ take-set-le at o place w h
 
 -- 16 words of work for each entry that the walk lets pass, so that an alternative finds room, and beside it one of another node.
 pub room_in_work : (work : ℕ) → room_of work * 16 ≤ work
@@ -50,7 +50,7 @@ room_in_work work = pick_case (λ (r : ℕ). r * 16 ≤ work) (ltb 65536 (work /
 -- A pass over the alternatives of a node: how many there are is read from its outline, and each is kept in the same room.
 module _ {t outline : List ℕ} {n at len : ℕ} (K : Keepable t outline n at len) where
   pub outline_is_there : n < length outline
-  outline_is_there = inside-outline K.node K.known
+  outline_is_there = inside_outline K.node K.known
 
   pub few_to_keep : length (alternatives_of t n) ≤ 256
   few_to_keep = few_alternatives K.node
@@ -66,32 +66,32 @@ module _ {t outline : List ℕ} {n i at len : ℕ} (K : Keepable t outline n at 
   pub its_number : OutlinedNumber t outline n i
   its_number = record { numbered = record { node = K.node; index = h }; known = K.known }
 
-  steps-long : length (alternative_words (Fixed 0) (alternatives_of t n) i) ≡ 5 * length (chosen t n i).steps
-  steps-long = length_of_alternative (Fixed 0) (alternatives_of t n) i
+  steps_long : length (alternative_words (Fixed 0) (alternatives_of t n) i) ≡ 5 * length (chosen t n i).steps
+  steps_long = length_of_alternative (Fixed 0) (alternatives_of t n) i
 
-  entries-many : length (chosen t n i).steps + guard_atoms (chosen t n i).guard ≤ entries (alternatives_of t n)
-  entries-many = size_within_entries (alternatives_of t n) i h
+  entries_many : length (chosen t n i).steps + guard_atoms (chosen t n i).guard ≤ entries (alternatives_of t n)
+  entries_many = size_within_entries (alternatives_of t n) i h
 
-  guard-long : length (closed_guard (alternatives_of t n) i) ≡ 3 * guard_atoms (chosen t n i).guard
+  guard_long : length (closed_guard (alternatives_of t n) i) ≡ 3 * guard_atoms (chosen t n i).guard
   unfolding alternatives_of
-  guard-long = length_of_guard (tree_at t n) i
+  guard_long = length_of_guard (tree_at t n) i
 
-  pub room_for-steps : at + length (alternative_words (Fixed 0) (alternatives_of t n) i) ≤ len
-  room_for-steps = omega (arith, K.room, steps-long, entries-many)
+  pub room_for_steps : at + length (alternative_words (Fixed 0) (alternatives_of t n) i) ≤ len
+  room_for_steps = omega (arith, K.room, steps_long, entries_many)
 
   -- The guard stands behind the steps.
   module _ {W W₁ : List ℕ} {g : ℕ} (same : length W ≡ len) (w : Wrote W W₁ at g (alternative_words (Fixed 0) (alternatives_of t n) i)) where
     in_order : at ≤ g
     in_order = omega (arith, w.ends)
 
-    guard-at : g ≡ at + length (chosen t n i).steps * 5
-    guard-at = omega (arith, w.ends, steps-long)
+    guard_at : g ≡ at + length (chosen t n i).steps * 5
+    guard_at = omega (arith, w.ends, steps_long)
 
-    guard-inside : g + length (closed_guard (alternatives_of t n) i) ≤ len
-    guard-inside = omega (arith, guard-at, guard-long, entries-many, K.room)
+    guard_inside : g + length (closed_guard (alternatives_of t n) i) ≤ len
+    guard_inside = omega (arith, guard_at, guard_long, entries_many, K.room)
 
-    pub room_for-guard : length W₁ ≡ length W → g + length (closed_guard (alternatives_of t n) i) ≤ length W₁
-    room_for-guard still = omega (arith, guard-inside)
+    pub room_for_guard : length W₁ ≡ length W → g + length (closed_guard (alternatives_of t n) i) ≤ length W₁
+    room_for_guard still = omega (arith, guard_inside)
 
     module _ {W₂ : List ℕ} {e : ℕ} (r : ℕ) (v : Wrote W₁ W₂ g e (closed_guard (alternatives_of t n) i)) where
       abbrev a : Kept
@@ -104,7 +104,7 @@ module _ {t outline : List ℕ} {n i at len : ℕ} (K : Keepable t outline n at 
       steps = rehop (Fixed 0) y.steps
 
       as_many_steps : a.steps ≡ length steps
-      as_many_steps = omega (arith, guard-at, length-rehop (Fixed 0) y.steps)
+      as_many_steps = omega (arith, guard_at, length-rehop (Fixed 0) y.steps)
 
       as_long : length W₂ ≡ len
       as_long = still_long v ∙ still_long w ∙ same
@@ -114,30 +114,30 @@ module _ {t outline : List ℕ} {n i at len : ℕ} (K : Keepable t outline n at 
       unfolding alternative_words
       stored =
           let ws = steps_words steps in
-          stored-words steps W₂ a 0
+          stored_words steps W₂ a 0
           (λ j h.
           let p : at + 0 * 5 + j ≡ at + j = omega arith in
           rw (p, v.holds, w.holds)
           (written_below (closed_guard (alternatives_of t n) i) (written W at ws) g (at + j) (omega (arith, w.ends))
-          ∙ read_back W at ws j (omega (arith, room_for-steps)) h))
+          ∙ read_back W at ws j (omega (arith, room_for_steps)) h))
 
       guard_read : guard_of W₂ a ≡ guard_words y.guard
       unfolding guard_of closed_guard
       guard_read =
           let long : e - g ≡ length (guard_words y.guard) = omega (arith, v.ends) in
-          rw (long, v.holds) (written_part W₁ g (guard_words y.guard) (omega (arith, guard-inside, still_long w)))
+          rw (long, v.holds) (written_part W₁ g (guard_words y.guard) (omega (arith, guard_inside, still_long w)))
 
       whole : Whole W₂ a
       unfolding alternatives_of
       whole = record {
-        some = omega (arith, as_many_steps, length-rehop (Fixed 0) y.steps, each-nth has_step (expand (tree_at t n)) i (each_expanded has_step (tree_at t n)));
-        many = omega (arith, as_many_steps, length-rehop (Fixed 0) y.steps, entries-many, K.few);
-        inside = omega (arith, guard-at, guard-inside, as_long);
+        some = omega (arith, as_many_steps, length-rehop (Fixed 0) y.steps, each_nth has_step (expand (tree_at t n)) i (each_expanded has_step (tree_at t n)));
+        many = omega (arith, as_many_steps, length-rehop (Fixed 0) y.steps, entries_many, K.few);
+        inside = omega (arith, guard_at, guard_inside, as_long);
         order = omega (arith, v.ends);
-        ends = omega (arith, v.ends, guard-inside, as_long);
+        ends = omega (arith, v.ends, guard_inside, as_long);
         atoms = λ k h.
             let small = small_rehop (Fixed 0) y.steps (an_alternative_has_small_atoms t n i K.node.formed K.node.inside its_number.numbered.index) in
-            rw (← zero-add k) (stored-atoms W₂ a steps 0 stored small k (omega (arith, as_many_steps)));
+            rw (← zero-add k) (stored_atoms W₂ a steps 0 stored small k (omega (arith, as_many_steps)));
       }
 
       pub is_kept : Keeps (chosen t n i) r W W₂ at a
@@ -145,13 +145,13 @@ module _ {t outline : List ℕ} {n i at len : ℕ} (K : Keepable t outline n at 
         holds = record {
           whole = whole;
           steps = ap (steps_from W₂ a 0) as_many_steps ∙ steps_are W₂ a steps 0 stored;
-          behind = omega (arith, guard-at);
+          behind = omega (arith, guard_at);
           guard = guard_read;
           register = refl;
         };
         from = refl;
-        short = omega (arith, v.ends, guard-at, guard-long);
-        front = rw (v.holds, w.holds) (front-stays _ _ at g in_order ∙ front-stays _ W at at (omega arith));
+        short = omega (arith, v.ends, guard_at, guard_long);
+        front = rw (v.holds, w.holds) (front_stays _ _ at g in_order ∙ front_stays _ W at at (omega arith));
         long = still_long v ∙ still_long w;
       }
 
@@ -175,9 +175,9 @@ module _ {before : List ℕ} {a : Kept} {y : SeqAlt} {r : ℕ} (H : Holds before
   same_steps_from k (suc count) h = ap₂ (λ (s : SeqStep) (ss : List SeqStep). s ∷ ss) (same_steps k (omega arith)) (same_steps_from (suc k) count (omega arith))
 
   -- The guard is what the words up to its end have behind its beginning.
-  guard-among : (W : List ℕ) → a.end ≤ length W → guard_of W a ≡ drop a.guard (take a.end W)
+  guard_among : (W : List ℕ) → a.end ≤ length W → guard_of W a ≡ drop a.guard (take a.end W)
   unfolding guard_of
-  guard-among W h =
+  guard_among W h =
       let ends : a.guard + (a.end - a.guard) ≡ a.end = omega (arith, H.whole.order) in
       let behind = drop_at (take a.guard W) (take (a.end - a.guard) (drop a.guard W)) a.guard (length-take-le a.guard W (omega (arith, H.whole.order))) in
       sym (ap (λ (p : ℕ). drop a.guard (take p W)) (sym ends) ∙ ap (drop a.guard) (take-add a.guard (a.end - a.guard) W) ∙ behind)
@@ -194,7 +194,7 @@ module _ {before : List ℕ} {a : Kept} {y : SeqAlt} {r : ℕ} (H : Holds before
     };
     steps = same_steps_from 0 a.steps (omega arith) ∙ H.steps;
     behind = H.behind;
-    guard = guard-among after end_inside ∙ ap (drop a.guard) same ∙ sym (guard-among before H.whole.ends) ∙ H.guard;
+    guard = guard_among after end_inside ∙ ap (drop a.guard) same ∙ sym (guard_among before H.whole.ends) ∙ H.guard;
     register = H.register;
   }
 

@@ -19,7 +19,7 @@ use Rattle.term.specs.declared.Kept.{Kept}
 use Rattle.term.specs.Steps.{steps_words}
 use Rattle.term.specs.Keeping.{step_of, steps_from, steps_of, guard_of, Stored}
 use Rattle.term.specs.Guards.{guard_words}
-use Rattle.term.proofs.Keeping.{length_of_guard, stored-words, steps_are}
+use Rattle.term.proofs.Keeping.{length_of_guard, stored_words, steps_are}
 use Rattle.current.specs.Text.{registers_before, text_at}
 use Rattle.current.specs.Walk.{Placed}
 use Rattle.current.proofs.Bridge.{the_current_expression_is_the_text, the_registers_are_counted}
@@ -35,10 +35,10 @@ use Rattle.alternative.specs.Alternatives.{alternative_synth, registers_in, stor
 use Rattle.alternative.specs.Keeping.{chosen, Keepable, Holds, Keeps, Ended, kept_text, kept_size}
 
 -- The steps that are read are kept, and as many as were asked for.
-stored-from : (W : List ℕ) (a : Kept) (k count : ℕ) → Stored W a k (steps_from W a k count)
+stored_from : (W : List ℕ) (a : Kept) (k count : ℕ) → Stored W a k (steps_from W a k count)
 unfolding steps_from
-stored-from W a k zero = tt
-stored-from W a k (suc count) = (refl, stored-from W a (suc k) count)
+stored_from W a k zero = tt
+stored_from W a k (suc count) = (refl, stored_from W a (suc k) count)
 
 length-steps_from : (W : List ℕ) (a : Kept) (k count : ℕ) → length (steps_from W a k count) ≡ count
 unfolding steps_from
@@ -59,20 +59,20 @@ window_rehopped [] = refl
 window_rehopped (s ∷ ss) = refl
 
 -- The text of a kept alternative has the size that is counted for it.
-kept_text-size : (W : List ℕ) (a : Kept) → length (kept_text W a) ≡ (size_up_to_step W a (a.steps - 1)).text
+kept_text_size : (W : List ℕ) (a : Kept) → length (kept_text W a) ≡ (size_up_to_step W a (a.steps - 1)).text
 unfolding kept_text
-kept_text-size W a = the_text_has_its_size W a (a.steps - 1) (a.register + registers_before W a (a.steps - 1))
+kept_text_size W a = the_text_has_its_size W a (a.steps - 1) (a.register + registers_before W a (a.steps - 1))
 
 -- What is read of a kept alternative, where its steps and its guard are those of an alternative.
 module _ (W : List ℕ) (a : Kept) (y : SeqAlt) (same_steps : steps_of W a ≡ rehop (Fixed 0) y.steps) (some : 1 ≤ a.steps) where
   as_many_steps : a.steps ≡ length y.steps
   as_many_steps = sym (length-steps_from W a 0 a.steps) ∙ ap length same_steps ∙ length-rehop (Fixed 0) y.steps
 
-  steps-stored : Stored W a 0 (rehop (Fixed 0) y.steps)
-  steps-stored = subst (Stored W a 0) same_steps (stored-from W a 0 a.steps)
+  steps_stored : Stored W a 0 (rehop (Fixed 0) y.steps)
+  steps_stored = subst (Stored W a 0) same_steps (stored_from W a 0 a.steps)
 
   by_steps : (P : List SeqStep → Type 0) → ((s : SeqStep) (ss : List SeqStep) → Stored W a 0 (s ∷ ss) → a.steps ≡ suc (length ss) → P (s ∷ ss)) → P (rehop (Fixed 0) y.steps)
-  by_steps P f = split (rehop (Fixed 0) y.steps) steps-stored (as_many_steps ∙ sym (length-rehop (Fixed 0) y.steps))
+  by_steps P f = split (rehop (Fixed 0) y.steps) steps_stored (as_many_steps ∙ sym (length-rehop (Fixed 0) y.steps))
     where
       split : (ss : List SeqStep) → Stored W a 0 ss → a.steps ≡ length ss → P ss
       split [] S e = absurd (omega (arith, some))
@@ -103,68 +103,68 @@ module _ (W : List ℕ) (a : Kept) (y : SeqAlt) (same_steps : steps_of W a ≡ r
 
 -- What is read of a kept alternative is what the alternative has that it holds.
 module _ {W : List ℕ} {a : Kept} {y : SeqAlt} {r : ℕ} (H : Holds W a y r) where
-  pub kept-many : a.steps ≡ length y.steps
-  kept-many = as_many_steps W a y H.steps H.whole.some
+  pub kept_many : a.steps ≡ length y.steps
+  kept_many = as_many_steps W a y H.steps H.whole.some
 
-  pub kept-steps : Stored W a 0 (rehop (Fixed 0) y.steps)
-  kept-steps = steps-stored W a y H.steps H.whole.some
+  pub kept_steps : Stored W a 0 (rehop (Fixed 0) y.steps)
+  kept_steps = steps_stored W a y H.steps H.whole.some
 
-  pub kept-registers : registers_before W a a.steps ≡ registers_in y
+  pub kept_registers : registers_before W a a.steps ≡ registers_in y
   unfolding registers_in
-  kept-registers = sym (registers_read W a y H.steps H.whole.some 0)
+  kept_registers = sym (registers_read W a y H.steps H.whole.some 0)
 
-  pub kept-stores : alternative_store_words W a ≡ stores_in y r
-  kept-stores = rw (← H.register) (sym (stores_read W a y H.steps H.whole.some H.guard))
+  pub kept_stores : alternative_store_words W a ≡ stores_in y r
+  kept_stores = rw (← H.register) (sym (stores_read W a y H.steps H.whole.some H.guard))
 
   pub kept_texts : kept_text W a ≡ text_in y r
   kept_texts = rw (← H.register) (sym (text_read W a y H.steps H.whole.some H.guard))
 
-  pub kept-fits : steps_fit (steps_of W a) ≡ steps_fit y.steps
-  kept-fits = ap steps_fit H.steps ∙ fits_rehopped y.steps
+  pub kept_fits : steps_fit (steps_of W a) ≡ steps_fit y.steps
+  kept_fits = ap steps_fit H.steps ∙ fits_rehopped y.steps
 
-  pub kept-window : window_len (steps_of W a) ≡ window_len y.steps
-  kept-window = ap window_len H.steps ∙ window_rehopped y.steps
+  pub kept_window : window_len (steps_of W a) ≡ window_len y.steps
+  kept_window = ap window_len H.steps ∙ window_rehopped y.steps
 
   -- The registers of a kept alternative are small enough for words where those of the alternative are.
   pub placed : r + registers_in y ≤ 65536 → Placed W a
-  placed few = record { whole = H.whole; registers = omega (arith, H.register, kept-registers) }
+  placed few = record { whole = H.whole; registers = omega (arith, H.register, kept_registers) }
 
   -- The register behind those of a kept alternative is the one behind the alternative's.
   pub next_in : {next : ℕ} → next ≡ a.register + registers_before W a a.steps → next ≡ r + registers_in y
-  next_in e = omega (arith, H.register, kept-registers)
+  next_in e = omega (arith, H.register, kept_registers)
 
   pub ended : {next : ℕ} → r + registers_in y ≤ 65536 → next ≡ r + registers_in y → Ended W a next
-  ended few e = record { placed = placed few; behind = omega (arith, H.register, kept-registers) }
+  ended few e = record { placed = placed few; behind = omega (arith, H.register, kept_registers) }
 
 -- An alternative that was just kept can be counted: a guard takes five words an entry at most, and entries are few.
 pub kept_is_countable : {t outline : List ℕ} {n i at len r : ℕ} {before after : List ℕ} {a : Kept} → Keepable t outline n at len → i < length (alternatives_of t n)
     → Keeps (chosen t n i) r before after at a → registers_in (chosen t n i) ≤ 65536 → Countable after a
 kept_is_countable {t} {n = n} {i} {a = a} K h S few = record {
   whole = S.holds.whole;
-  registers = rw (kept-registers S.holds) few;
+  registers = rw (kept_registers S.holds) few;
   short = omega (arith, length_of_guard S.holds.whole, S.short, S.from, S.holds.behind, size_within_entries (alternatives_of t n) i h, K.few);
 }
 
 -- The words of a kept alternative that can be counted.
 module _ {W : List ℕ} {a : Kept} (C : Countable W a) where
   -- Each of at most 65,536 steps adds at most 2^37 words of assignments.
-  pub few-stores : length (alternative_store_words W a) ≤ most_store_words
-  few-stores =
+  pub few_stores : length (alternative_store_words W a) ≤ most_store_words
+  few_stores =
       omega (arith, the_stores_have_their_size W a, stores_small C (a.steps - 1) (omega (arith, C.whole.some)), C.whole.many, C.whole.some)
 
   -- Each of at most 65,536 steps adds at most 16 words to the text, in which the guard stands at most once.
-  pub short-text : length (kept_text W a) ≤ 2097152
-  short-text = omega (arith, kept_text-size W a, text_small W a (a.steps - 1), C.whole.many, C.whole.some, C.short)
+  pub short_text : length (kept_text W a) ≤ 2097152
+  short_text = omega (arith, kept_text_size W a, text_small W a (a.steps - 1), C.whole.many, C.whole.some, C.short)
 
   -- `size`.
   module _ {z : Size} (e : z ≡ size_up_to_step W a (a.steps - 1)) where
     pub sized : z ≡ kept_size W a
     unfolding kept_size
-    sized = e ∙ rw (kept_text-size W a, the_stores_have_their_size W a) refl
+    sized = e ∙ rw (kept_text_size W a, the_stores_have_their_size W a) refl
 
     pub sized_small : z.text + z.stores ≤ most_words
     unfolding kept_size
-    sized_small = rw sized (omega (arith, few-stores, short-text))
+    sized_small = rw sized (omega (arith, few_stores, short_text))
 
 -- The words of steps and behind them those of a guard, by themselves, keep an alternative, whatever its register.
 module _ (s : SeqStep) (ss : List SeqStep) (g : Guard) where
@@ -183,7 +183,7 @@ module _ (s : SeqStep) (ss : List SeqStep) (g : Guard) where
   its_steps_are : (r : ℕ) → steps_of its_words (itself r) ≡ its_steps
   its_steps_are r =
       steps_are its_words (itself r) its_steps 0
-      (stored-words its_steps its_words (itself r) 0
+      (stored_words its_steps its_words (itself r) 0
       (λ j h.
       let p : 0 + 0 * 5 + j ≡ j = omega arith in
       rw p (get_or-append (steps_words its_steps) (guard_words g) 0 j h)))
@@ -214,7 +214,7 @@ module _ (s : SeqStep) (ss : List SeqStep) (g : Guard) where
   text_as_long : (r : ℕ) → length (text_in its_alternative r) ≡ (size_up_to_step its_words (itself 0) (length its_steps - 1)).text
   text_as_long r =
       ap length (text_read its_words (itself r) its_alternative (its_steps_are r) (omega arith) (its_guard_is r))
-      ∙ kept_text-size its_words (itself r)
+      ∙ kept_text_size its_words (itself r)
       ∙ ap (λ (z : Size). z.text) (its_size (length its_steps - 1) r)
 
 -- From any register on an alternative has as many registers, and as many words.
@@ -243,5 +243,5 @@ as_long_a_text y r = from y.steps
     from (s ∷ ss) = text_as_long s ss y.guard r ∙ sym (text_as_long s ss y.guard 0)
 
 -- The pipeline of an alternative that has no guard.
-pub unguarded-synth : (y : SeqAlt) (r : ℕ) → y.guard ≡ unguarded → synth_seq_pipeline unguarded y.steps r ≡ alternative_synth y r
-unguarded-synth y r e = ap (λ (g : Guard). synth_seq_pipeline g y.steps r) (sym e)
+pub unguarded_synth : (y : SeqAlt) (r : ℕ) → y.guard ≡ unguarded → synth_seq_pipeline unguarded y.steps r ≡ alternative_synth y r
+unguarded_synth y r e = ap (λ (g : Guard). synth_seq_pipeline g y.steps r) (sym e)

@@ -144,14 +144,14 @@ module _ {line out out' : List ℕ} {count from : ℕ} (g : Reading line out out
       let room : ℕ = length out - count in
       let first : List ℕ = numbers_of_word (take (end - from) (drop from line)) in
       let others : List ℕ = numbers_from [] (drop (end + 1) line) in
-      let word-ends : end - from ≡ k = omega arith in
+      let word_ends : end - from ≡ k = omega arith in
       let blank_passed : from + suc k ≡ end + 1 = omega arith in
       let parts : numbers_from [] (drop from line) ≡ first ++ others =
-      rw (word-ends, ← blank_passed, ← drop-drop (suc k) from line) (first_word [] (drop from line)) in
+      rw (word_ends, ← blank_passed, ← drop-drop (suc k) from line) (first_word [] (drop from line)) in
       let put : Wrote out' out'' count next (take room first) = rw (← g.long) w in
-      let room-left : room - length (take room first) ≡ length out - next = omega (arith, put.ends) in
+      let room_left : room - length (take room first) ≡ length out - next = omega (arith, put.ends) in
       let both : take room (numbers_from [] (drop from line)) ≡ take room first ++ take (length out - next) others =
-      rw (parts, ← room-left) (take_both room first others) in
+      rw (parts, ← room_left) (take_both room first others) in
       let going = go (take room first) (take (length out - next) others) (rw both at g.going) put in
       record { inside = omega (arith, put.ends, length-take room first, g.inside); long = going.long; going = going }
 

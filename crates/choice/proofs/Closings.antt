@@ -35,9 +35,9 @@ module _ (count i : ℕ) where
   following_length several later = rw (following several later) refl
 
   -- There is room for the first word of a closing, and for its second.
-  pub room_for-any : (o : List ℕ) (at : ℕ) → (count ≡ 1 → ⊥) → at + length (closing count i) ≤ length o → at < length o
+  pub room_for_any : (o : List ℕ) (at : ℕ) → (count ≡ 1 → ⊥) → at + length (closing count i) ≤ length o → at < length o
   unfolding closing
-  room_for-any o at several room =
+  room_for_any o at several room =
       let some : 1 ≤ length (closing count i) = rw (pick_false _ _ (ne_eqb count 1 several)) (pick_case (λ (l : List ℕ). 1 ≤ length l) (eqb i 0) (λ e. omega arith) (λ e. omega arith)) in
       omega arith
 

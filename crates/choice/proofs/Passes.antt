@@ -25,7 +25,7 @@ use Rattle.sizes.specs.Sizes.{Countable, most_words}
 use Rattle.alternative.specs.Alternatives.{registers_in, stores_in}
 use Rattle.alternative.specs.Keeping.{chosen, Keepable, Keeps, Ended}
 use Rattle.alternative.proofs.Keeping.{few_to_keep, all_counted}
-use Rattle.alternative.proofs.Laws.{kept-registers, kept-stores, kept-fits, placed, next_in, kept_is_countable}
+use Rattle.alternative.proofs.Laws.{kept_registers, kept_stores, kept_fits, placed, next_in, kept_is_countable}
 use Rattle.choice.specs.RootText.{kept_root_text, kept_root_size}
 use Rattle.choice.specs.ChoiceWords.{root_text_in, all_registers, all_stores, closing, all_texts, match_words, choice_words, survey_from, survey_of, Numberable}
 use Rattle.choice.specs.declared.Survey.TheVariants.{Misplaced, Registers}
@@ -37,8 +37,8 @@ module _ {t outline : List ℕ} {n at len count i : ℕ} (K : Keepable t outline
   pub among : i < count → i < length (alternatives_of t n)
   among h = omega (arith, all_counted K e)
 
-  next-few : i < count → i + 1 ≤ 256
-  next-few h = omega (arith, all_counted K e, few_to_keep K)
+  next_few : i < count → i + 1 ≤ 256
+  next_few h = omega (arith, all_counted K e, few_to_keep K)
 
   here : i < count → drop i (alternatives_of t n) ≡ chosen t n i ∷ drop (i + 1) (alternatives_of t n)
   here h = rest_of (alternatives_of t n) i (among h)
@@ -61,15 +61,15 @@ module _ {t outline : List ℕ} {n len count total i : ℕ} {work : List ℕ} (K
   module _ {r : ℕ} {work₁ : List ℕ} {a : Kept} {fits : Bool} (h : i < count) (k : Keeps (chosen t n i) r work work₁ 0 a) (f : fits ≡ steps_fit (steps_of work₁ a)) where
     pub survey_stops : not fits ≡ true → Misplaced i ≡ survey_of (alternatives_of t n)
     unfolding survey_from
-    survey_stops q = sym (S.rest ∙ rw (here K e h) (pick_false _ _ (sym (f ∙ kept-fits k.holds) ∙ not-true fits q)))
+    survey_stops q = sym (S.rest ∙ rw (here K e h) (pick_false _ _ (sym (f ∙ kept_fits k.holds) ∙ not-true fits q)))
 
     pub surveying_on : {own : ℕ} → fits ≡ true → own ≡ registers_before work₁ a a.steps → own ≤ most_registers → Surveying t n len work₁ (total + own) (i + 1)
     unfolding survey_from
     surveying_on q o small = record {
-      few = next-few K e h;
+      few = next_few K e h;
       low = omega (arith, S.low);
       long = k.long ∙ S.long;
-      rest = S.rest ∙ rw (here K e h, o, kept-registers k.holds) (pick_true _ _ (sym (f ∙ kept-fits k.holds) ∙ q));
+      rest = S.rest ∙ rw (here K e h, o, kept_registers k.holds) (pick_true _ _ (sym (f ∙ kept_fits k.holds) ∙ q));
     }
 
   pub survey_ends : count ≤ i → Registers total ≡ survey_of (alternatives_of t n)
@@ -77,18 +77,18 @@ module _ {t outline : List ℕ} {n len count total i : ℕ} {work : List ℕ} (K
   survey_ends h = sym (S.rest ∙ rw (none_left K e h) refl)
 
 -- The registers of one alternative are among those of all.
-registers-among : (alts : List SeqAlt) (i : ℕ) → i < length alts → registers_in (nth alts i) ≤ all_registers alts
+registers_among : (alts : List SeqAlt) (i : ℕ) → i < length alts → registers_in (nth alts i) ≤ all_registers alts
 unfolding nth all_registers
-registers-among [] i h = absurd (omega arith)
-registers-among (y ∷ ys) zero h = omega arith
-registers-among (y ∷ ys) (suc i) h = omega (arith, registers-among ys i (omega arith))
+registers_among [] i h = absurd (omega arith)
+registers_among (y ∷ ys) zero h = omega arith
+registers_among (y ∷ ys) (suc i) h = omega (arith, registers_among ys i (omega arith))
 
 -- An alternative that a later pass has just kept can be counted.
 pub now_countable : {t outline : List ℕ} {n first len count i r : ℕ} {before after : List ℕ} {a : Kept} → Numberable t outline n first len → count ≡ count_in outline n → i < count
     → Keeps (chosen t n i) r before after 0 a → Countable after a
 now_countable {t} {n = n} {i = i} N e h k =
     let there = among N.keepable e h in
-    kept_is_countable N.keepable there k (omega (arith, N.few, registers-among (alternatives_of t n) i there))
+    kept_is_countable N.keepable there k (omega (arith, N.few, registers_among (alternatives_of t n) i there))
 
 -- The second pass: the words of the alternatives that are left are still to be added.
 pub record Sizing (t : List ℕ) (n len : ℕ) (work : List ℕ) (total i : ℕ) : Type 0 where
@@ -118,7 +118,7 @@ module _ {t outline : List ℕ} {n len count total i : ℕ} {work : List ℕ} (K
       let closed = length-append (closing many i) texts in
       let same = ap (λ (c : ℕ). length (closing c i)) (all_counted K e) in
       record {
-        few = next-few K e h;
+        few = next_few K e h;
         low = omega (arith, S.low);
         long = k.long ∙ S.long;
         sum = omega (arith, sum, kept_root_sizes k.holds, as_long_all_stores ys (0 + registers_in y), as_long_all_texts many (i + 1) ys (0 + registers_in y));
@@ -148,14 +148,14 @@ module _ {t outline : List ℕ} {n first len count r i : ℕ} {work work₁ : Li
   pub now_ended : {next : ℕ} → next ≡ a.register + registers_before work₁ a a.steps → Ended work₁ a next
   now_ended f = record { placed = now_placed; behind = f }
 
-  next-register : {next : ℕ} → next ≡ a.register + registers_before work₁ a a.steps → next ≡ r + registers_in (chosen t n i)
-  next-register f = next_in k.holds f
+  next_register : {next : ℕ} → next ≡ a.register + registers_before work₁ a a.steps → next ≡ r + registers_in (chosen t n i)
+  next_register f = next_in k.holds f
 
   numbering_on : {next : ℕ} → next ≡ a.register + registers_before work₁ a a.steps → Numbering t n first len work₁ next (i + 1)
   unfolding all_registers
   numbering_on f =
       let left = ap all_registers (here N.keepable e h) in
-      record { few = next-few N.keepable e h; long = k.long ∙ P.long; registers = omega (arith, P.registers, next-register f) }
+      record { few = next_few N.keepable e h; long = k.long ∙ P.long; registers = omega (arith, P.registers, next_register f) }
 
 -- The third pass: the assignments of the alternatives that are left are still to be put.
 pub record Storing (t : List ℕ) (n first len : ℕ) (out₀ work out : List ℕ) (p r i : ℕ) : Type 0 where
@@ -170,10 +170,10 @@ module _ {t outline : List ℕ} {n first len count p r i : ℕ} {out₀ work out
   module _ {work₁ : List ℕ} {a : Kept} (h : i < count) (k : Keeps (chosen t n i) r work work₁ 0 a) where
     remaining_stores : all_stores (drop i (alternatives_of t n)) r ≡ alternative_store_words work₁ a ++ all_stores (drop (i + 1) (alternatives_of t n)) (r + registers_in (chosen t n i))
     unfolding all_stores
-    remaining_stores = rw (here N.keepable e h, kept-stores k.holds) refl
+    remaining_stores = rw (here N.keepable e h, kept_stores k.holds) refl
 
-    pub stores-fit : length (all_stores (alternatives_of t n) first) ≤ length out₀ → p + length (alternative_store_words work₁ a) ≤ length out
-    stores-fit room =
+    pub stores_fit : length (all_stores (alternatives_of t n) first) ≤ length out₀ → p + length (alternative_store_words work₁ a) ≤ length out
+    stores_fit room =
         let parts = length-append (alternative_store_words work₁ a) (all_stores (drop (i + 1) (alternatives_of t n)) (r + registers_in (chosen t n i))) in
         omega (arith, room, ap length remaining_stores, S.going.place, S.going.long)
 
@@ -181,7 +181,7 @@ module _ {t outline : List ℕ} {n first len count p r i : ℕ} {out₀ work out
         → Storing t n first len out₀ work₁ out₁ q next (i + 1)
     storing_on w f = record {
       numbering = numbering_on N e S.numbering h k f;
-      going = rw (next-register N e S.numbering h k f) (go (alternative_store_words work₁ a) _ (rw remaining_stores at S.going) w);
+      going = rw (next_register N e S.numbering h k f) (go (alternative_store_words work₁ a) _ (rw remaining_stores at S.going) w);
     }
 
   pub storing_ends : count ≤ i → Wrote out₀ out 0 p (all_stores (alternatives_of t n) first)
@@ -193,9 +193,9 @@ pub record Joining (t : List ℕ) (n first len : ℕ) (out₀ : List ℕ) (at : 
   pub numbering : Numbering t n first len work r i
   pub going : Going out₀ at (match_words (alternatives_of t n) first) out p (all_texts (length (alternatives_of t n)) i (drop i (alternatives_of t n)) r ++ (word 14 0 ∷ []))
 
-pub joining-begins : (t : List ℕ) (n first : ℕ) (work out : List ℕ) (at : ℕ) → Joining t n first (length work) out at work out at first 0
+pub joining_begins : (t : List ℕ) (n first : ℕ) (work out : List ℕ) (at : ℕ) → Joining t n first (length work) out at work out at first 0
 unfolding match_words
-joining-begins t n first work out at = record { numbering = numbering_begins t n first work; going = begin out at _ }
+joining_begins t n first work out at = record { numbering = numbering_begins t n first work; going = begin out at _ }
 
 module _ {t outline : List ℕ} {n first len count at p r i : ℕ} {out₀ work out : List ℕ} (N : Numberable t outline n first len) (e : count ≡ count_in outline n)
     (S : Joining t n first len out₀ at work out p r i) where
@@ -208,13 +208,13 @@ module _ {t outline : List ℕ} {n first len count at p r i : ℕ} {out₀ work 
     texts_going = rw (kept_root_texts k.holds, all_counted N.keepable e) (simp append_assoc at (rw (here N.keepable e h) at S.going))
 
     module _ (room : at + length (match_words (alternatives_of t n) first) ≤ length out₀) where
-      pub text-fits : p + length (kept_root_text work₁ a) ≤ length out
-      text-fits =
+      pub text_fits : p + length (kept_root_text work₁ a) ≤ length out
+      text_fits =
           let parts = length-append (kept_root_text work₁ a) (closing count i ++ later_texts) in
           omega (arith, room, texts_going.place, texts_going.long)
 
-      pub closing-fits : {out₁ : List ℕ} {q : ℕ} → Wrote out out₁ p q (kept_root_text work₁ a) → q + length (closing count i) ≤ length out₁
-      closing-fits w =
+      pub closing_fits : {out₁ : List ℕ} {q : ℕ} → Wrote out out₁ p q (kept_root_text work₁ a) → q + length (closing count i) ≤ length out₁
+      closing_fits w =
           let more = go (kept_root_text work₁ a) (closing count i ++ later_texts) texts_going w in
           let parts = length-append (closing count i) later_texts in
           omega (arith, room, more.place, more.long)
@@ -223,7 +223,7 @@ module _ {t outline : List ℕ} {n first len count at p r i : ℕ} {out₀ work 
         → next ≡ a.register + registers_before work₁ a a.steps → Joining t n first len out₀ at work₁ out₂ s next (i + 1)
     joining_on w v f = record {
       numbering = numbering_on N e S.numbering h k f;
-      going = rw (next-register N e S.numbering h k f) (go (closing count i) later_texts (go (kept_root_text work₁ a) (closing count i ++ later_texts) texts_going w) v);
+      going = rw (next_register N e S.numbering h k f) (go (closing count i) later_texts (go (kept_root_text work₁ a) (closing count i ++ later_texts) texts_going w) v);
     }
 
   module _ (h : count ≤ i) where
@@ -234,8 +234,8 @@ module _ {t outline : List ℕ} {n first len count at p r i : ℕ} {out₀ work 
     pub match_fits : at + length (match_words (alternatives_of t n) first) ≤ length out₀ → p < length out
     match_fits room = omega (arith, room, only_the_match.place, only_the_match.long)
 
-    pub joining-ends : {out₁ : List ℕ} {q : ℕ} → Wrote out out₁ p q (word 14 0 ∷ []) → Wrote out₀ out₁ at q (match_words (alternatives_of t n) first)
-    joining-ends w = last only_the_match w
+    pub joining_ends : {out₁ : List ℕ} {q : ℕ} → Wrote out out₁ p q (word 14 0 ∷ []) → Wrote out₀ out₁ at q (match_words (alternatives_of t n) first)
+    joining_ends w = last only_the_match w
 
 -- The two passes that write come one after the other. Work is as long as it was, so the second finds what the first found.
 pub numberable_again : {t outline : List ℕ} {n first len len₁ : ℕ} → Numberable t outline n first len → len₁ ≡ len → Numberable t outline n first len₁
@@ -247,8 +247,8 @@ module _ (alts : List SeqAlt) (first : ℕ) (out : List ℕ) where
   in_two_parts = refl
 
   module _ (room : length (choice_words alts first) ≤ length out) where
-    pub room_for-stores : length (all_stores alts first) ≤ length out
-    room_for-stores = omega (arith, room, length_of_a_choice alts first)
+    pub room_for_stores : length (all_stores alts first) ≤ length out
+    room_for_stores = omega (arith, room, length_of_a_choice alts first)
 
     pub room_for_match : {out₁ : List ℕ} {at : ℕ} → Wrote out out₁ 0 at (all_stores alts first) → at + length (match_words alts first) ≤ length out₁
     room_for_match w = second_room (all_stores alts first) (match_words alts first) in_two_parts (omega (arith, room)) w

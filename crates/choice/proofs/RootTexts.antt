@@ -29,7 +29,7 @@ use Rattle.sizes.specs.declared.Size.{Size}
 use Rattle.sizes.specs.Sizes.{Countable, most_words}
 use Rattle.alternative.specs.Alternatives.{stores_in, text_in}
 use Rattle.alternative.specs.Keeping.{Holds, kept_text, kept_size}
-use Rattle.alternative.proofs.Laws.{kept-many, kept-steps, kept-stores, kept_texts, few-stores, as_long_stores, as_long_a_text}
+use Rattle.alternative.proofs.Laws.{kept_many, kept_steps, kept_stores, kept_texts, few_stores, as_long_stores, as_long_a_text}
 use Rattle.choice.specs.RootText.{bool_of, lone_in, bare_or, kept_root_text, kept_root_size}
 use Rattle.choice.specs.ChoiceWords.{root_text_in}
 use Rattle.choice.specs.declared.Lone.{Lone}
@@ -43,10 +43,10 @@ lone_of unguarded (s ∷ t ∷ ss) = Other
 lone_of (guard x) ss = Other
 
 module _ (r : ℕ) where
-  lone-text : (g : Guard) (ss : List SeqStep) → expression_words (lone_or_pipeline g ss r).cur ≡ bare_or (lone_of g ss) (expression_words (synth_seq_pipeline g ss r).cur)
+  lone_text : (g : Guard) (ss : List SeqStep) → expression_words (lone_or_pipeline g ss r).cur ≡ bare_or (lone_of g ss) (expression_words (synth_seq_pipeline g ss r).cur)
   unfolding lone_of bool_of
-  lone-text unguarded [] = refl
-  lone-text unguarded (s ∷ []) = by_term s.term
+  lone_text unguarded [] = refl
+  lone_text unguarded (s ∷ []) = by_term s.term
     where
       by_term : (x : SeqTerm) → expression_words (lone_or_pipeline unguarded (record { term = x; hop = s.hop } ∷ []) r).cur ≡ bare_or (bool_of x) (expression_words (synth_seq_pipeline unguarded (record { term = x; hop = s.hop } ∷ []) r).cur)
       by_term (BoolTerm a) = refl
@@ -54,12 +54,12 @@ module _ (r : ℕ) where
       by_term (Nonconsec b k) = refl
       by_term (ConsecAtLeast b k) = refl
       by_term Empty = refl
-  lone-text unguarded (s ∷ t ∷ ss) = refl
-  lone-text (guard x) ss = refl
+  lone_text unguarded (s ∷ t ∷ ss) = refl
+  lone_text (guard x) ss = refl
 
   its_root_text : (y : SeqAlt) → root_text_in y r ≡ bare_or (lone_of y.guard y.steps) (text_in y r)
   unfolding root_text_in text_in
-  its_root_text y = lone-text y.guard y.steps
+  its_root_text y = lone_text y.guard y.steps
 
 -- A root text has as many words from any register on.
 pub as_long_a_root_text : (y : SeqAlt) (r : ℕ) → length (root_text_in y r) ≡ length (root_text_in y 0)
@@ -75,34 +75,34 @@ a_guard_has_words x z = omega (arith, length-append (expression_words x) (word 7
 
 -- A kept alternative is told from the others by its steps and its guard.
 module _ {W : List ℕ} {a : Kept} {r : ℕ} where
-  guard-length : {y : SeqAlt} → Holds W a y r → a.end ≡ a.guard + length (guard_words y.guard)
-  guard-length H = omega (arith, length_of_guard H.whole, ap length H.guard, H.whole.order)
+  guard_length : {y : SeqAlt} → Holds W a y r → a.end ≡ a.guard + length (guard_words y.guard)
+  guard_length H = omega (arith, length_of_guard H.whole, ap length H.guard, H.whole.order)
 
-  lone-kept : (g : Guard) (ss : List SeqStep) → Holds W a (alternative ss g) r → lone_in W a ≡ lone_of g ss
+  lone_kept : (g : Guard) (ss : List SeqStep) → Holds W a (alternative ss g) r → lone_in W a ≡ lone_of g ss
   unfolding lone_in lone_of
-  lone-kept unguarded [] H = absurd (omega (arith, kept-many H, H.whole.some))
-  lone-kept unguarded (s ∷ []) H =
-      pick_true _ _ (eq-eqb a.steps 1 (kept-many H)) ∙ pick_true _ _ (eq-eqb a.guard a.end (omega (arith, guard-length H)))
-      ∙ ap (λ (s : SeqStep). bool_of s.term) (kept-steps H).0
-  lone-kept unguarded (s ∷ t ∷ ss) H = pick_false _ _ (ne_eqb a.steps 1 (λ e. omega (arith, kept-many H)))
-  lone-kept (guard x) ss H =
+  lone_kept unguarded [] H = absurd (omega (arith, kept_many H, H.whole.some))
+  lone_kept unguarded (s ∷ []) H =
+      pick_true _ _ (eq-eqb a.steps 1 (kept_many H)) ∙ pick_true _ _ (eq-eqb a.guard a.end (omega (arith, guard_length H)))
+      ∙ ap (λ (s : SeqStep). bool_of s.term) (kept_steps H).0
+  lone_kept unguarded (s ∷ t ∷ ss) H = pick_false _ _ (ne_eqb a.steps 1 (λ e. omega (arith, kept_many H)))
+  lone_kept (guard x) ss H =
       pick_case (λ (l : Lone). l ≡ Other) (eqb a.steps 1)
-      (λ _. pick_false _ _ (ne_eqb a.guard a.end (λ e. a_guard_has_words x (omega (arith, guard-length H))))) (λ _. refl)
+      (λ _. pick_false _ _ (ne_eqb a.guard a.end (λ e. a_guard_has_words x (omega (arith, guard_length H))))) (λ _. refl)
 
 module _ {W : List ℕ} {a : Kept} {y : SeqAlt} {r : ℕ} (H : Holds W a y r) where
   pub kept_root_texts : kept_root_text W a ≡ root_text_in y r
   unfolding kept_root_text
-  kept_root_texts = ap₂ bare_or (lone-kept y.guard y.steps H) (kept_texts H) ∙ sym (its_root_text r y)
+  kept_root_texts = ap₂ bare_or (lone_kept y.guard y.steps H) (kept_texts H) ∙ sym (its_root_text r y)
 
   pub kept_root_sizes : kept_root_size W a ≡ length (stores_in y 0) + length (root_text_in y 0)
   unfolding kept_root_size
-  kept_root_sizes = omega (arith, ap length (kept-stores H), ap length kept_root_texts, as_long_stores y r, as_long_a_root_text y r)
+  kept_root_sizes = omega (arith, ap length (kept_stores H), ap length kept_root_texts, as_long_stores y r, as_long_a_root_text y r)
 
 -- `lone_in`, by its tests.
 module _ (W : List ℕ) (a : Kept) where
-  pub lone-step : {s : SeqStep} {l : Lone} → a.steps ≡ 1 → a.guard ≡ a.end → s ≡ step_of W a 0 → l ≡ bool_of s.term → l ≡ lone_in W a
+  pub lone_step : {s : SeqStep} {l : Lone} → a.steps ≡ 1 → a.guard ≡ a.end → s ≡ step_of W a 0 → l ≡ bool_of s.term → l ≡ lone_in W a
   unfolding lone_in
-  lone-step e f q p = p ∙ rw q refl ∙ sym (pick_true _ _ (eq-eqb a.steps 1 e) ∙ pick_true _ _ (eq-eqb a.guard a.end f))
+  lone_step e f q p = p ∙ rw q refl ∙ sym (pick_true _ _ (eq-eqb a.steps 1 e) ∙ pick_true _ _ (eq-eqb a.guard a.end f))
 
   pub lone_but_guarded : a.steps ≡ 1 → (a.guard ≡ a.end → ⊥) → Other ≡ lone_in W a
   unfolding lone_in
@@ -121,9 +121,9 @@ atom_of (Nonconsec a k) b e = absurd (let z : ◌≡◌ {A = ℕ} 0 1 = cc in om
 atom_of (ConsecAtLeast a k) b e = absurd (let z : ◌≡◌ {A = ℕ} 0 1 = cc in omega arith)
 atom_of Empty b e = absurd (let z : ◌≡◌ {A = ℕ} 0 1 = cc in omega arith)
 
-lone-atom : (W : List ℕ) (a : Kept) (b : ℕ) → lone_in W a ≡ Atom b → term_atom (step_of W a 0).term ≡ b
+lone_atom : (W : List ℕ) (a : Kept) (b : ℕ) → lone_in W a ≡ Atom b → term_atom (step_of W a 0).term ≡ b
 unfolding lone_in
-lone-atom W a b e =
+lone_atom W a b e =
     pick_case (λ (l : Lone). l ≡ Atom b → term_atom (step_of W a 0).term ≡ b) (eqb a.steps 1)
     (λ _. pick_case (λ (l : Lone). l ≡ Atom b → term_atom (step_of W a 0).term ≡ b) (eqb a.guard a.end) (λ _ q. atom_of (step_of W a 0).term b q) (λ _ q. absurd (let z : ◌≡◌ {A = ℕ} 0 1 = cc in omega arith)))
     (λ _ q. absurd (let z : ◌≡◌ {A = ℕ} 0 1 = cc in omega arith)) e
@@ -131,26 +131,26 @@ lone-atom W a b e =
 module _ (W : List ℕ) (a : Kept) {l : Lone} (p : l ≡ lone_in W a) where
   -- `root_text` and `root_size` of a bare atom.
   module _ {b : ℕ} (e : l ≡ Atom b) where
-    bare-text : kept_root_text W a ≡ atom_word b ∷ []
+    bare_text : kept_root_text W a ≡ atom_word b ∷ []
     unfolding kept_root_text
-    bare-text = rw (← p, e) refl
+    bare_text = rw (← p, e) refl
 
-    pub bare-fits : Whole W a → Fits w32 (16777216 + b)
-    bare-fits whole = let small : b < 65536 = rw (← lone-atom W a b (sym p ∙ e)) (whole.atoms 0 whole.some) in omega arith
+    pub bare_fits : Whole W a → Fits w32 (16777216 + b)
+    bare_fits whole = let small : b < 65536 = rw (← lone_atom W a b (sym p ∙ e)) (whole.atoms 0 whole.some) in omega arith
 
-    pub bare-room : (o : List ℕ) (at : ℕ) → at + length (kept_root_text W a) ≤ length o → at < length o
-    bare-room o at room = let w : at + 1 ≤ length o = rw bare-text at room in omega arith
+    pub bare_room : (o : List ℕ) (at : ℕ) → at + length (kept_root_text W a) ≤ length o → at < length o
+    bare_room o at room = let w : at + 1 ≤ length o = rw bare_text at room in omega arith
 
-    pub bare-written : {o o₁ : List ℕ} {at q : ℕ} → Wrote o o₁ at q ((16777216 + b) ∷ []) → Wrote o o₁ at q (kept_root_text W a)
-    bare-written w = rw bare-text w
+    pub bare_written : {o o₁ : List ℕ} {at q : ℕ} → Wrote o o₁ at q ((16777216 + b) ∷ []) → Wrote o o₁ at q (kept_root_text W a)
+    bare_written w = rw bare_text w
 
-    pub bare-size : {z : Size} → z ≡ kept_size W a → z.stores + 1 ≡ kept_root_size W a
+    pub bare_size : {z : Size} → z ≡ kept_size W a → z.stores + 1 ≡ kept_root_size W a
     unfolding kept_root_size kept_size
-    bare-size q = rw (bare-text, q) refl
+    bare_size q = rw (bare_text, q) refl
 
     pub bare_small : {z : Size} → Countable W a → z ≡ kept_size W a → z.stores + 1 ≤ most_words
     unfolding kept_size
-    bare_small C q = rw q (omega (arith, few-stores C))
+    bare_small C q = rw q (omega (arith, few_stores C))
 
   -- `root_text` and `root_size` of what is no bare atom: the alternative's text.
   module _ (e : l ≡ Other) where
@@ -158,12 +158,12 @@ module _ (W : List ℕ) (a : Kept) {l : Lone} (p : l ≡ lone_in W a) where
     unfolding kept_root_text
     other_text = rw (← p, e) refl
 
-    pub other-room : (o : List ℕ) (at : ℕ) → at + length (kept_root_text W a) ≤ length o → at + length (kept_text W a) ≤ length o
-    other-room o at room = rw other_text at room
+    pub other_room : (o : List ℕ) (at : ℕ) → at + length (kept_root_text W a) ≤ length o → at + length (kept_text W a) ≤ length o
+    other_room o at room = rw other_text at room
 
-    pub other-written : {o o₁ : List ℕ} {at q : ℕ} → Wrote o o₁ at q (kept_text W a) → Wrote o o₁ at q (kept_root_text W a)
-    other-written w = rw other_text w
+    pub other_written : {o o₁ : List ℕ} {at q : ℕ} → Wrote o o₁ at q (kept_text W a) → Wrote o o₁ at q (kept_root_text W a)
+    other_written w = rw other_text w
 
-    pub other-size : {z : Size} → z ≡ kept_size W a → z.stores + z.text ≡ kept_root_size W a
+    pub other_size : {z : Size} → z ≡ kept_size W a → z.stores + z.text ≡ kept_root_size W a
     unfolding kept_root_size kept_size
-    other-size q = rw (other_text, q) refl
+    other_size q = rw (other_text, q) refl

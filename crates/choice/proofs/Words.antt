@@ -15,16 +15,16 @@ use Rattle.meaning.specs.Listing.{word, expression_words, store_words, listing}
 use Rattle.meaning.specs.declared.SeqTerm.{SeqTerm}
 use Rattle.meaning.specs.declared.SeqTerm.TheVariants.{Bool as BoolTerm, Goto, Nonconsec, ConsecAtLeast, Empty}
 use Rattle.meaning.specs.declared.SeqStep.{SeqStep}
-use Rattle.meaning.proofs.Emitted.{store_words-append}
+use Rattle.meaning.proofs.Emitted.{store_words_append}
 use Rattle.alternative.specs.Alternatives.{registers_in, stores_in}
 use Rattle.alternative.proofs.Laws.{as_many_registers, as_long_stores}
 use Rattle.choice.specs.ChoiceWords.{root_text_in, all_registers, all_stores, closing, all_texts, match_words, choice_words}
 use Rattle.choice.proofs.RootTexts.{as_long_a_root_text}
 
 -- At the root, a lone unguarded Bool has another match; its assignments, none, are those of the pipeline.
-root-stores : (g : Guard) (ss : List SeqStep) (r : ℕ) → (lone_or_pipeline g ss r).stores ≡ (synth_seq_pipeline g ss r).stores
-root-stores unguarded [] r = refl
-root-stores unguarded (s ∷ []) r = by_term s.term
+root_stores : (g : Guard) (ss : List SeqStep) (r : ℕ) → (lone_or_pipeline g ss r).stores ≡ (synth_seq_pipeline g ss r).stores
+root_stores unguarded [] r = refl
+root_stores unguarded (s ∷ []) r = by_term s.term
   where
     by_term : (x : SeqTerm) → (lone_or_pipeline unguarded (record { term = x; hop = s.hop } ∷ []) r).stores ≡ (synth_seq_pipeline unguarded (record { term = x; hop = s.hop } ∷ []) r).stores
     by_term (BoolTerm a) = refl
@@ -32,11 +32,11 @@ root-stores unguarded (s ∷ []) r = by_term s.term
     by_term (Nonconsec b k) = refl
     by_term (ConsecAtLeast b k) = refl
     by_term Empty = refl
-root-stores unguarded (s ∷ t ∷ ss) r = refl
-root-stores (guard x) ss r = refl
+root_stores unguarded (s ∷ t ∷ ss) r = refl
+root_stores (guard x) ss r = refl
 
-root-registers : (y : SeqAlt) (r : ℕ) → length (lone_or_pipeline y.guard y.steps r).stores ≡ registers_in y
-root-registers y r = ap length (root-stores y.guard y.steps r) ∙ as_many_registers y r
+root_registers : (y : SeqAlt) (r : ℕ) → length (lone_or_pipeline y.guard y.steps r).stores ≡ registers_in y
+root_registers y r = ap length (root_stores y.guard y.steps r) ∙ as_many_registers y r
 
 -- The registers of a choice are those of its alternatives, added up.
 pub the_registers_of_a_choice : (alts : List SeqAlt) (r : ℕ) → length (choice alts r).stores ≡ all_registers alts
@@ -45,7 +45,7 @@ the_registers_of_a_choice [] r = refl
 the_registers_of_a_choice (y ∷ ys) r =
     let o = lone_or_pipeline y.guard y.steps r in
     let more = the_registers_of_a_choice ys (r + length o.stores) in
-    length-append o.stores _ ∙ omega (arith, root-registers y r, more)
+    length-append o.stores _ ∙ omega (arith, root_registers y r, more)
 
 -- The assignments of a choice.
 the_stores_of_a_choice : (alts : List SeqAlt) (r : ℕ) → store_words r (choice alts r).stores ≡ all_stores alts r
@@ -53,19 +53,19 @@ unfolding all_stores stores_in
 the_stores_of_a_choice [] r = refl
 the_stores_of_a_choice (y ∷ ys) r =
     let o = lone_or_pipeline y.guard y.steps r in
-    store_words-append r o.stores (match_sigs ys (r + length o.stores)).stores
-    ∙ ap₂ (λ (l m : List ℕ). l ++ m) (ap (store_words r) (root-stores y.guard y.steps r))
-    (the_stores_of_a_choice ys (r + length o.stores) ∙ ap (λ (q : ℕ). all_stores ys (r + q)) (root-registers y r))
+    store_words_append r o.stores (match_sigs ys (r + length o.stores)).stores
+    ∙ ap₂ (λ (l m : List ℕ). l ++ m) (ap (store_words r) (root_stores y.guard y.steps r))
+    (the_stores_of_a_choice ys (r + length o.stores) ∙ ap (λ (q : ℕ). all_stores ys (r + q)) (root_registers y r))
 
 -- The signals behind the first, each reduced by OR and joined.
 joined_words : List Expr → List ℕ
 joined_words [] = []
 joined_words (e ∷ es) = expression_words e ++ (word 5 0 ∷ word 8 0 ∷ joined_words es)
 
-or_reduced-words : (acc : Expr) (es : List Expr) → expression_words (or_reduced acc es) ≡ expression_words acc ++ joined_words es
+or_reduced_words : (acc : Expr) (es : List Expr) → expression_words (or_reduced acc es) ≡ expression_words acc ++ joined_words es
 unfolding joined_words
-or_reduced-words acc [] = sym (append-nil (expression_words acc))
-or_reduced-words acc (e ∷ es) = or_reduced-words (or· acc (any e)) es ∙ simp append_assoc
+or_reduced_words acc [] = sym (append-nil (expression_words acc))
+or_reduced_words acc (e ∷ es) = or_reduced_words (or· acc (any e)) es ∙ simp append_assoc
 
 -- What stands behind an alternative: nothing where it is the only one, else its reduction and, from the second on, its OR.
 closes_alone : (i : ℕ) → closing 1 i ≡ []
@@ -88,7 +88,7 @@ later_texts k i (y ∷ ys) r =
     let o = lone_or_pipeline y.guard y.steps r in
     ap (λ (l : List ℕ). expression_words o.cur ++ (l ++ all_texts (suc (suc k)) (i + 1 + 1) ys (r + registers_in y))) (closes_later k i)
     ∙ ap (λ (l : List ℕ). expression_words o.cur ++ (word 5 0 ∷ word 8 0 ∷ l))
-    (later_texts k (i + 1) ys (r + registers_in y) ∙ ap (λ (q : ℕ). joined_words (match_sigs ys (r + q)).curs) (sym (root-registers y r)))
+    (later_texts k (i + 1) ys (r + registers_in y) ∙ ap (λ (q : ℕ). joined_words (match_sigs ys (r + q)).curs) (sym (root_registers y r)))
 
 -- The match of a choice.
 the_match_of_a_choice : (alts : List SeqAlt) (r : ℕ) → 1 ≤ length alts → expression_words (choice alts r).cur ≡ all_texts (length alts) 0 alts r
@@ -97,10 +97,10 @@ the_match_of_a_choice [] r some = absurd (omega arith)
 the_match_of_a_choice (y ∷ []) r some = rw (closes_alone 0, append-nil) refl
 the_match_of_a_choice (y ∷ z ∷ ys) r some =
     let o = lone_or_pipeline y.guard y.steps r in
-    or_reduced-words (any o.cur) (match_sigs (z ∷ ys) (r + length o.stores)).curs
+    or_reduced_words (any o.cur) (match_sigs (z ∷ ys) (r + length o.stores)).curs
     ∙ append_assoc (expression_words o.cur) (word 5 0 ∷ []) _
     ∙ ap (λ (l : List ℕ). expression_words o.cur ++ (word 5 0 ∷ l))
-    (ap (λ (q : ℕ). joined_words (match_sigs (z ∷ ys) (r + q)).curs) (root-registers y r)
+    (ap (λ (q : ℕ). joined_words (match_sigs (z ∷ ys) (r + q)).curs) (root_registers y r)
     ∙ sym (later_texts (length ys) 0 (z ∷ ys) (r + registers_in y)))
     ∙ ap (λ (l : List ℕ). expression_words o.cur ++ (l ++ all_texts (suc (suc (length ys))) 1 (z ∷ ys) (r + registers_in y))) (sym (closes_first (length ys)))
 
@@ -141,6 +141,6 @@ length_of_a_match alts r = length-append (all_texts (length alts) 0 alts r) (wor
 
 pub as_long_a_choice : (alts : List SeqAlt) (r : ℕ) → length (choice_words alts r) ≡ length (choice_words alts 0)
 as_long_a_choice alts r =
-    let any-stores = as_long_all_stores alts r in
+    let any_stores = as_long_all_stores alts r in
     let any_texts = as_long_all_texts (length alts) 0 alts r in
     omega (arith, length_of_a_choice alts r, length_of_a_choice alts 0, length_of_a_match alts r, length_of_a_match alts 0)

@@ -88,9 +88,9 @@ module _ {map : List ℕ} {picture : ℕ → ℕ → ℕ} {rows : List ℕ} {tic
   came_in = get_or-set_same rows (place_of tick) _ 0 (omega (arith, H.long))
 
   -- The pixel that leaves is kept corrected.
-  kept-corrected : (s : ℕ) → tick ≡ s + 2 → pixel_at (rows_after map entered s) s ≡ corrected (names map) picture (row_of s) (column_of s)
+  kept_corrected : (s : ℕ) → tick ≡ s + 2 → pixel_at (rows_after map entered s) s ≡ corrected (names map) picture (row_of s) (column_of s)
   unfolding rows_after entered
-  kept-corrected s e =
+  kept_corrected s e =
       pick_case (λ (l : List ℕ). pixel_at l s ≡ corrected (names map) picture (row_of s) (column_of s)) (names map (row_of s) (column_of s))
       (λ n. get_or-set_same entered (place_of s) _ 0 (simp length-set (omega (arith, H.long))) ∙ replaced s e n)
       (λ n. still s (omega arith) (omega arith) ∙ H.waiting s (omega arith) (omega arith)
@@ -127,7 +127,7 @@ module _ {map : List ℕ} {picture : ℕ → ℕ → ℕ} {rows : List ℕ} {tic
     long = length-after u;
     waiting = λ s i j. others_kept s u (λ q. apart u s (omega arith) (omega arith) (sym q)) ∙ waits s i j;
     gone = λ s i j. elim (dec_le u s) [
-      | yes a ↦ (let f : s ≡ u = omega arith in rw f (kept-corrected u e))
+      | yes a ↦ (let f : s ≡ u = omega arith in rw f (kept_corrected u e))
       | no a ↦ others_kept s u (apart s u (omega arith) (omega arith))
           ∙ still s (omega arith) (omega arith)
           ∙ H.gone s (omega arith) (omega arith)
@@ -135,23 +135,23 @@ module _ {map : List ℕ} {picture : ℕ → ℕ → ℕ} {rows : List ℕ} {tic
   }
 
   -- What a tick keeps, and what it lets out.
-  next-tick : {after : List ℕ} {given : Output} → Stepped map rows after tick (picture (row_of tick) (column_of tick)) given
+  next_tick : {after : List ℕ} {given : Output} → Stepped map rows after tick (picture (row_of tick) (column_of tick)) given
       → Holding map picture after (tick + 1)
   unfolding entered
-  next-tick S = elim (dec_le 2 tick) [
+  next_tick S = elim (dec_le 2 tick) [
     | yes a ↦ rw (S.keeps ∙ pick_false _ _ (le-ltb tick 2 a)) (one_left (tick - 2) (omega arith))
     | no a ↦ rw (S.keeps ∙ pick_true _ _ (lt-ltb tick 2 (omega arith))) (nothing_left (omega arith))
   ]
 
-  step-leaves : {after : List ℕ} {given : Output} → Stepped map rows after tick (picture (row_of tick) (column_of tick)) given → 2 ≤ tick
+  step_leaves : {after : List ℕ} {given : Output} → Stepped map rows after tick (picture (row_of tick) (column_of tick)) given → 2 ≤ tick
       → given.leaving ≡ to_leave map picture (row_of (tick - 2)) (column_of (tick - 2))
   unfolding entered
-  step-leaves S h = S.leaves ∙ pick_false _ _ (le-ltb tick 2 h) ∙ leaving (tick - 2) (omega arith)
+  step_leaves S h = S.leaves ∙ pick_false _ _ (le-ltb tick 2 h) ∙ leaving (tick - 2) (omega arith)
 
 -- The rows hold what they should after every tick of a frame.
 held : {map : List ℕ} {picture : ℕ → ℕ → ℕ} {tick : ℕ} {rows : List ℕ} → Ran map picture tick rows → Holding map picture rows tick
 held (begun l) = record { long = l; waiting = λ s i j. absurd (omega arith); gone = λ s i j. absurd (omega arith) }
-held (ticked R S) = next-tick (held R) S
+held (ticked R S) = next_tick (held R) S
 
 -- The rows are two at every tick.
 pub rows_stay_two : {map : List ℕ} {picture : ℕ → ℕ → ℕ} {tick : ℕ} {rows : List ℕ} → Ran map picture tick rows → length rows ≡ 1504
@@ -163,4 +163,4 @@ pub what_leaves_is_corrected : {map : List ℕ} {picture : ℕ → ℕ → ℕ} 
     → Ran map picture tick before
     → Stepped map before after tick (picture (row_of tick) (column_of tick)) given → 2 ≤ tick
     → given.leaving ≡ to_leave map picture (row_of (tick - 2)) (column_of (tick - 2))
-what_leaves_is_corrected R S h = step-leaves (held R) S h
+what_leaves_is_corrected R S h = step_leaves (held R) S h

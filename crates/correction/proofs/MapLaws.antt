@@ -43,10 +43,10 @@ none_before (entry ∷ map) from row column h k o =
     ∙ none_before map (tick_of entry + 1) row column h (omega (arith, f.later)) f.rest
 
 -- An entry that comes in later than the tick leaves the map in order from the next tick on.
-ordered-later : (from entry : ℕ) (map : List ℕ) → ordered from (entry ∷ map) ≡ true → (tick_of entry ≡ from → ⊥)
+ordered_later : (from entry : ℕ) (map : List ℕ) → ordered from (entry ∷ map) ≡ true → (tick_of entry ≡ from → ⊥)
     → ordered (from + 1) (entry ∷ map) ≡ true
 unfolding ordered
-ordered-later from entry map o n =
+ordered_later from entry map o n =
     let f = first from entry map o in
     pick_false false _ (lt-leb 752 (entry % 65536) f.column)
     ∙ pick_false false _ (le-ltb (tick_of entry) (from + 1) (omega (arith, f.later, n)))
@@ -64,10 +64,10 @@ module _ {map : List ℕ} {reached row column : ℕ} (h : column < 752) (R : Rea
       }
 
   -- The next entry is another pixel's.
-  pub at-another : {entry : ℕ} → reached < length map → entry ≡ entry_of row column → (get_or map reached 0 ≡ entry → ⊥)
+  pub at_another : {entry : ℕ} → reached < length map → entry ≡ entry_of row column → (get_or map reached 0 ≡ entry → ⊥)
       → LookedUp map row column (record { named = false; reached = reached })
   unfolding names
-  at-another k e n =
+  at_another k e n =
       let here = get_or map reached 0 in
       let rest = drop (reached + 1) map in
       let d : drop reached map ≡ here ∷ rest = drop_here map reached k in
@@ -79,7 +79,7 @@ module _ {map : List ℕ} {reached row column : ℕ} (h : column < 752) (R : Rea
             ∙ none_before rest (tick_of here + 1) row column h (omega (arith, f.later)) f.rest));
         after = record {
           inside = R.inside;
-          ahead = rw d (ordered-later (row * 752 + column) here rest o m);
+          ahead = rw d (ordered_later (row * 752 + column) here rest o m);
           behind = λ r c i j. R.behind r c i (omega arith);
         };
       }

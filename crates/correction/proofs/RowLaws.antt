@@ -36,11 +36,11 @@ module _ {map : List ℕ} {row column : ℕ} (tick : ℕ) (r : row ≡ row_of ti
       record { leaves = sym (pick_false _ _ no ∙ ap Kept (sym e)); keeps = sym (pick_false _ _ no); reaches = same_tick L }
 
   -- The map names the pixel.
-  pub leaves-replaced : {rows : List ℕ} {found : Found} {p place : ℕ} → LookedUp map row column found → not found.named ≡ false
+  pub leaves_replaced : {rows : List ℕ} {found : Found} {p place : ℕ} → LookedUp map row column found → not found.named ≡ false
       → p ≡ replacement_by rows tick row column → place ≡ place_of tick
       → Left map rows (set rows place p) tick (record { leaving = Replaced p; reached = found.reached })
   unfolding leaving_of rows_after
-  leaves-replaced {rows} {found} {p} L n e f =
+  leaves_replaced {rows} {found} {p} L n e f =
       let yes : names map (row_of tick) (column_of tick) ≡ true = rw (r, c) at (sym L.says ∙ not-false found.named n) in
       let q : p ≡ replacement_by rows tick (row_of tick) (column_of tick) = rw (r, c) at e in
       record {
@@ -60,9 +60,9 @@ length-kept rows place pixel {map} {after} {tick} L =
 
 module _ {map rows : List ℕ} {tick place pixel : ℕ} (e : place ≡ place_of tick) where
   -- In the first two ticks nothing leaves.
-  pub nothing-leaves : {reached : ℕ} → tick < 2 → Reached map reached (tick - 2)
+  pub nothing_leaves : {reached : ℕ} → tick < 2 → Reached map reached (tick - 2)
       → Stepped map rows (set rows place pixel) tick pixel (record { leaving = Nothing; reached = reached })
-  nothing-leaves h R =
+  nothing_leaves h R =
       let t = lt-ltb tick 2 h in
       let s : tick - 2 ≡ tick + 1 - 2 = omega arith in
       record { leaves = sym (pick_true _ _ t); keeps = sym (pick_true _ _ t ∙ rw (← e) refl); reaches = rw s at R }

@@ -22,12 +22,12 @@ use Rattle.outline.proofs.Laws.{counted}
 use Rattle.outline.proofs.ByWords.{well_formed, is_atom, is_delay, is_consec, is_goto, is_nonconsec, is_throughout, is_within}
 use Rattle.outline.proofs.Noting.{still_known}
 use Rattle.count.specs.Nodes.{Countable, IsWithin, OperandsKnown, limit, paired}
-use Rattle.count.proofs.Stands.{limit-capped}
+use Rattle.count.proofs.Stands.{limit_capped}
 
 -- 9, 10 and 11 of a root within, from the counts of both operands.
-paired-counts : (room n : ℕ) (xs ys : List SeqAlt) → room ≤ 65536 → paired room n (counts xs) (counts ys) ≡ limited_within room n xs ys
+paired_counts : (room n : ℕ) (xs ys : List SeqAlt) → room ≤ 65536 → paired room n (counts xs) (counts ys) ≡ limited_within room n xs ys
 unfolding paired limited_within counts pair_counts limit
-paired-counts room n xs ys h = rw (limit-capped room n (length xs * length ys) (entries xs + entries ys) true false h) refl
+paired_counts room n xs ys h = rw (limit_capped room n (length xs * length ys) (entries xs + entries ys) true false h) refl
 
 -- A root of another kind than within.
 no_within : {t : List ℕ} {n : ℕ} (room : ℕ) → FormedTable t → n < nodes t → ((node_at t n).kind ≡ 7 → ⊥) → walk_root room (tree_at t n) ≡ walk room 1 (tree_at t n)
@@ -45,11 +45,11 @@ no_within {t} {n} room F inside f =
 -- ---- `walked_within`: v are the root's words, x and y the answers of its operands
 
 module _ {t : List ℕ} {n room : ℕ} (I : IsWithin t n room) where
-  pub within-inside : n * 5 + 5 ≤ length t
-  within-inside = omega (arith, I.formed.whole, I.inside)
+  pub within_inside : n * 5 + 5 ≤ length t
+  within_inside = omega (arith, I.formed.whole, I.inside)
 
-  pub within-few : n < 4096
-  within-few = omega (arith, I.formed.few, I.inside)
+  pub within_few : n < 4096
+  within_few = omega (arith, I.formed.few, I.inside)
 
   pub room_enough : room ≤ 65536
   room_enough = I.rooms
@@ -65,27 +65,27 @@ module _ {t : List ℕ} {n room : ℕ} (I : IsWithin t n room) where
     countable : (k : ℕ) → k < n → Countable t k room 1
     countable k l = record { formed = I.formed; inside = omega (arith, I.inside); rooms = I.rooms; deep = omega arith }
 
-    pub one-countable : Countable t v.p room 1
-    one-countable = countable _ (words.within_one kind)
+    pub one_countable : Countable t v.p room 1
+    one_countable = countable _ (words.within_one kind)
 
-    pub two-countable : Countable t v.q room 1
-    two-countable = countable _ (words.within_two kind)
+    pub two_countable : Countable t v.q room 1
+    two_countable = countable _ (words.within_two kind)
 
     -- seq1, then seq2, then the pairs.
-    within-walk : walk_root room (tree_at t n) ≡ and_then (walk room 1 (tree_at t v.p)) (and_then (walk room 1 (tree_at t v.q)) (limited_within room n (expand (tree_at t v.p)) (expand (tree_at t v.q))))
+    within_walk : walk_root room (tree_at t n) ≡ and_then (walk room 1 (tree_at t v.p)) (and_then (walk room 1 (tree_at t v.q)) (limited_within room n (expand (tree_at t v.p)) (expand (tree_at t v.q))))
     unfolding walk_root
-    within-walk = rw (is_within I.formed I.inside w kind) refl
+    within_walk = rw (is_within I.formed I.inside w kind) refl
 
     module _ {x : Walked} (a : x ≡ walk room 1 (tree_at t v.p)) where
       -- A refusal in seq1, or in seq2, is the answer.
       pub one_refused : {number place : ℕ} → x ≡ Refused number place → x ≡ walk_root room (tree_at t n)
       unfolding and_then
-      one_refused q = q ∙ sym (within-walk ∙ rw (sym a ∙ q) refl)
+      one_refused q = q ∙ sym (within_walk ∙ rw (sym a ∙ q) refl)
 
       module _ {c : Counts} {y : Walked} (q : x ≡ Counted c) (b : y ≡ walk room 1 (tree_at t v.q)) where
         pub two_refused : {number place : ℕ} → y ≡ Refused number place → y ≡ walk_root room (tree_at t n)
         unfolding and_then
-        two_refused q' = q' ∙ sym (within-walk ∙ rw (sym a ∙ q, sym b ∙ q') refl)
+        two_refused q' = q' ∙ sym (within_walk ∙ rw (sym a ∙ q, sym b ∙ q') refl)
 
         -- Where neither operand is refused, 9, 10 and 11 of the root are the answer.
         pub within_done : {c' : Counts} {z : Walked} → y ≡ Counted c' → z ≡ paired room n c c' → z ≡ walk_root room (tree_at t n)
@@ -94,8 +94,8 @@ module _ {t : List ℕ} {n room : ℕ} (I : IsWithin t n room) where
             let one = the_walk_counts_the_expansion room 1 (tree_at t v.p) c (sym a ∙ q) in
             let two = the_walk_counts_the_expansion room 1 (tree_at t v.q) c' (sym b ∙ q') in
             let decided : paired room n c c' ≡ limited_within room n (expand (tree_at t v.p)) (expand (tree_at t v.q)) =
-            rw (one, two) (paired-counts room n _ _ I.rooms) in
-            u ∙ decided ∙ sym (within-walk ∙ rw (sym a ∙ q, sym b ∙ q') refl)
+            rw (one, two) (paired_counts room n _ _ I.rooms) in
+            u ∙ decided ∙ sym (within_walk ∙ rw (sym a ∙ q, sym b ∙ q') refl)
 
     -- The words of both operands are noted.
     pub operands_known : {x y : Walked} {c c' : Counts} {o o₁ o₂ : List ℕ} (z : Walked) → x ≡ Counted c → WhereCounted x (Notes t v.p o o₁)
@@ -118,12 +118,12 @@ module _ (t : List ℕ) (work : ℕ) {room : ℕ} (F : FormedTable t) (e : room 
   root_is = below_is_one_less (nodes t)
 
   -- The root may be walked as a node of depth 1.
-  pub root-countable : Countable t (nodes t - 1) room 1
-  root-countable = record { formed = F; inside = inside; rooms = small; deep = omega arith }
+  pub root_countable : Countable t (nodes t - 1) room 1
+  root_countable = record { formed = F; inside = inside; rooms = small; deep = omega arith }
 
   module _ {v : Node} (w : v ≡ node_at t (nodes t - 1)) where
-    pub root-within : v.kind ≡ 7 → IsWithin t (nodes t - 1) room
-    root-within k = record { formed = F; inside = inside; rooms = small; kind = rw (← w) k }
+    pub root_within : v.kind ≡ 7 → IsWithin t (nodes t - 1) room
+    root_within k = record { formed = F; inside = inside; rooms = small; kind = rw (← w) k }
 
     pub within_root_done : {z : Walked} → z ≡ walk_root room (tree_at t (nodes t - 1)) → z ≡ walk_root (room_of work) (root t)
     within_root_done q = q ∙ rw (e, root_is) refl

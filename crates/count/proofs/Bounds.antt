@@ -31,9 +31,9 @@ module _ (l r : Counts) {c : Counts} where
   sum_is_small e = rw e (capped_is_small _ _ _ _)
 
 -- What is within the bounds of 10 and 11 is not changed by the neutral counts.
-pub neutral-product : (s : Counts) → s.alternatives ≤ 256 → s.entries ≤ 65536 → product neutral s ≡ s
+pub neutral_product : (s : Counts) → s.alternatives ≤ 256 → s.entries ≤ 65536 → product neutral s ≡ s
 unfolding product capped pick
-neutral-product s few fits =
+neutral_product s few fits =
     let a : 1 * s.alternatives ≡ s.alternatives = omega arith in
     let e : 0 * s.alternatives + 1 * s.entries ≡ s.entries = omega arith in
     rw (a, e, le-ltb _ _ few, le-ltb _ _ fits) refl
@@ -59,8 +59,8 @@ summed_is_small base total first count s e = rw e (summed_small base total first
 
 -- The products of small counts fit 64 bits.
 module _ (l r : Counts) (s : Small l) (q : Small r) where
-  pub pairs-fit : Fits w64 (l.alternatives * r.alternatives)
-  pairs-fit = let p : l.alternatives * r.alternatives ≤ 257 * 257 = mul-le-mul s.few q.few in omega arith
+  pub pairs_fit : Fits w64 (l.alternatives * r.alternatives)
+  pairs_fit = let p : l.alternatives * r.alternatives ≤ 257 * 257 = mul-le-mul s.few q.few in omega arith
 
   pub left_entries_fit : Fits w64 (l.entries * r.alternatives)
   left_entries_fit = let p : l.entries * r.alternatives ≤ 65537 * 257 = mul-le-mul s.short q.few in omega arith

@@ -18,13 +18,13 @@ use Rattle.meaning.specs.declared.Walked.TheVariants.{Counted, Refused}
 use Rattle.outline.specs.Outline.{is_repeated, bare, noted, WhereCounted, Known, Notes}
 use Rattle.outline.proofs.Laws.{Repetition, counted}
 use Rattle.outline.proofs.ByWords.{is_delay, is_finite, is_throughout}
-use Rattle.outline.proofs.Readers.{bare-known}
+use Rattle.outline.proofs.Readers.{bare_known}
 use Rattle.outline.proofs.Noting.{alone, alone_notes, delay_notes, throughout_notes, repeated_notes}
 use Rattle.count.specs.Capped.{neutral, Small, product}
 use Rattle.count.specs.Nodes.{Countable, Answerable, limit, delay_counts, repeated, covered, unvisited, unrepeated, answer, left_of, visits, operand_at}
 use Rattle.count.proofs.Bounds.{product_is_small}
 use Rattle.count.proofs.NotVisited.{not_visited_walk}
-use Rattle.count.proofs.Walking.{Visiting, both, covered_one, repeated-one, none, visiting, words, operand_expandable, operand_alone, delay-walk, delay_decided, throughout-walk, throughout_decided, repetition_walk, repetition_decided}
+use Rattle.count.proofs.Walking.{Visiting, both, covered_one, repeated_one, none, visiting, words, operand_expandable, operand_alone, delay_walk, delay_decided, throughout_walk, throughout_decided, repetition_walk, repetition_decided}
 
 -- Of the node with the words v, k operands were walked: their counts, joined, are c, and their words stand in o', before which there was o.
 pub data Joined (t : List ℕ) (v : Node) (room d : ℕ) (o : List ℕ) (k : ℕ) (c : Counts) (o' : List ℕ) : Type 0 where
@@ -40,8 +40,8 @@ pub record Joining (t : List ℕ) (n room d : ℕ) (o : List ℕ) (k : ℕ) (c :
   pub joined : Joined t (node_at t n) room d o k c o'
 
 -- At first no operand was walked.
-pub joining-begins : (t : List ℕ) (n room d : ℕ) (o : List ℕ) → Joining t n room d o 0 neutral o
-joining-begins t n room d o = record {
+pub joining_begins : (t : List ℕ) (n room d : ℕ) (o : List ℕ) → Joining t n room d o 0 neutral o
+joining_begins t n room d o = record {
   turn = omega arith;
   small = record { few = omega arith; short = omega arith };
   long = refl;
@@ -64,15 +64,15 @@ module _ {t : List ℕ} {n room d : ℕ} (S : Countable t n room d) (h : d ≤ 2
           | no z ↦ (let one : k ≡ 1 = omega arith in rw (q, one, right) ((words S h).delay_right kind))
         ]
         by (covered_one kind g r' one under) = let z : k ≡ 0 = omega arith in rw (q, z, under) ((words S h).throughout_under kind)
-        by (repeated-one R r' one under) = let z : k ≡ 0 = omega arith in rw (q, z, under) ((words S h).consec_under R.kind)
+        by (repeated_one R r' one under) = let z : k ≡ 0 = omega arith in rw (q, z, under) ((words S h).consec_under R.kind)
         by (none f g r' zero) = absurd (omega arith)
 
     -- The operand is lower, where u is the measure at entry, and one deeper, which 4 will look at.
-    pub operand-lower : {u : ℕ} → n ≡ u → p < u
-    operand-lower z = omega (arith, low)
+    pub operand_lower : {u : ℕ} → n ≡ u → p < u
+    operand_lower z = omega (arith, low)
 
-    pub operand-countable : Countable t p room (d + 1)
-    operand-countable = record { formed = S.formed; inside = omega (arith, low, S.inside); rooms = S.rooms; deep = omega arith }
+    pub operand_countable : Countable t p room (d + 1)
+    operand_countable = record { formed = S.formed; inside = omega (arith, low, S.inside); rooms = S.rooms; deep = omega arith }
 
     module _ {o o' : List ℕ} {c : Counts} (J : Joining t n room d o k c o') {x : Walked} (a : x ≡ walk room (d + 1) (tree_at t p)) where
       -- A refusal is the answer.
@@ -85,13 +85,13 @@ module _ {t : List ℕ} {n room d : ℕ} (S : Countable t n room d) (h : d ≤ 2
 
           by : Visiting v → Joined t v room d o k c o' → x ≡ walk room d (tree_at t n)
           by (both kind r' two left right) (nothing_yet z _ _) =
-              let is : p ≡ v.p = q ∙ rw (z, left) refl in refused ∙ sym (delay-walk S h kind ∙ rw (rw is at below_p) refl)
+              let is : p ≡ v.p = q ∙ rw (z, left) refl in refused ∙ sym (delay_walk S h kind ∙ rw (rw is at below_p) refl)
           by (both kind r' two left right) (first z counts _) =
               let is : p ≡ v.q = q ∙ rw (z, right) refl in
-              refused ∙ sym (delay-walk S h kind ∙ rw (rw left at counts, rw is at below_p) refl)
+              refused ∙ sym (delay_walk S h kind ∙ rw (rw left at counts, rw is at below_p) refl)
           by (both kind r' two left right) (second l r o₁ z _ _ _ _ _) = absurd (omega arith)
-          by (covered_one kind g r' one under) J = let is : p ≡ v.q = q ∙ rw ((let z : k ≡ 0 = omega arith in z), under) refl in refused ∙ sym (throughout-walk S h kind ∙ rw (rw is at below_p) refl)
-          by (repeated-one R r' one under) J = let is : p ≡ v.p = q ∙ rw ((let z : k ≡ 0 = omega arith in z), under) refl in refused ∙ sym (repetition_walk S h R ∙ rw (rw is at below_p) refl)
+          by (covered_one kind g r' one under) J = let is : p ≡ v.q = q ∙ rw ((let z : k ≡ 0 = omega arith in z), under) refl in refused ∙ sym (throughout_walk S h kind ∙ rw (rw is at below_p) refl)
+          by (repeated_one R r' one under) J = let is : p ≡ v.p = q ∙ rw ((let z : k ≡ 0 = omega arith in z), under) refl in refused ∙ sym (repetition_walk S h R ∙ rw (rw is at below_p) refl)
           by (none f g r' zero) J = absurd (omega arith)
 
       -- The counts of an operand that is not refused are joined to those before it.
@@ -120,40 +120,40 @@ module _ {t : List ℕ} {n room d : ℕ} (S : Countable t n room d) (h : d ≤ 2
               few : Visiting v → ⊥
               few (both kind r' two left right) = omega arith
               few (covered_one kind g r' one under) = omega arith
-              few (repeated-one R r' one under) = omega arith
+              few (repeated_one R r' one under) = omega arith
               few (none f g r' zero) = omega arith
 
   -- ---- behind the last operand: the node's own answer
 
-  delay-answer : (c : Counts) → (node_at t n).kind ≡ 2 → is_repeated (node_at t n) ≡ false → answer room n v (node_at t v.p) c ≡ limit room n (delay_counts v c)
+  delay_answer : (c : Counts) → (node_at t n).kind ≡ 2 → is_repeated (node_at t n) ≡ false → answer room n v (node_at t v.p) c ≡ limit room n (delay_counts v c)
   unfolding answer unrepeated
-  delay-answer c k r = pick_false _ _ r ∙ pick_true _ _ (eq-eqb _ _ k)
+  delay_answer c k r = pick_false _ _ r ∙ pick_true _ _ (eq-eqb _ _ k)
 
-  covered-answer : (c : Counts) → (node_at t n).kind ≡ 6 → ((node_at t n).kind ≡ 2 → ⊥) → is_repeated (node_at t n) ≡ false
+  covered_answer : (c : Counts) → (node_at t n).kind ≡ 6 → ((node_at t n).kind ≡ 2 → ⊥) → is_repeated (node_at t n) ≡ false
       → answer room n v (node_at t v.p) c ≡ covered room n c
   unfolding answer unrepeated
-  covered-answer c k f r = pick_false _ _ r ∙ pick_false _ _ (ne_eqb _ _ f) ∙ pick_true _ _ (eq-eqb _ _ k)
+  covered_answer c k f r = pick_false _ _ r ∙ pick_false _ _ (ne_eqb _ _ f) ∙ pick_true _ _ (eq-eqb _ _ k)
 
-  repeated-answer : (c : Counts) → is_repeated (node_at t n) ≡ true → answer room n v (node_at t v.p) c ≡ repeated room n v c
+  repeated_answer : (c : Counts) → is_repeated (node_at t n) ≡ true → answer room n v (node_at t v.p) c ≡ repeated room n v c
   unfolding answer
-  repeated-answer c r = pick_true _ _ r
+  repeated_answer c r = pick_true _ _ r
 
-  unvisited-answer : (c : Counts) → ((node_at t n).kind ≡ 2 → ⊥) → ((node_at t n).kind ≡ 6 → ⊥) → is_repeated (node_at t n) ≡ false
+  unvisited_answer : (c : Counts) → ((node_at t n).kind ≡ 2 → ⊥) → ((node_at t n).kind ≡ 6 → ⊥) → is_repeated (node_at t n) ≡ false
       → answer room n v (node_at t v.p) c ≡ unvisited room n v (node_at t v.p)
   unfolding answer unrepeated
-  unvisited-answer c f g r = pick_false _ _ r ∙ pick_false _ _ (ne_eqb _ _ f) ∙ pick_false _ _ (ne_eqb _ _ g)
+  unvisited_answer c f g r = pick_false _ _ r ∙ pick_false _ _ (ne_eqb _ _ f) ∙ pick_false _ _ (ne_eqb _ _ g)
 
   -- What is left of the node.
   itself : (o : List ℕ) → is_repeated (node_at t n) ≡ false → left_of o n v ≡ n
   unfolding left_of
   itself o r = pick_false _ _ r
 
-  copied-left : {o : List ℕ} {c : Counts} (R : Repetition (node_at t n)) → is_repeated (node_at t n) ≡ true → walk room (d + 1) (tree_at t v.p) ≡ Counted c
+  copied_left : {o : List ℕ} {c : Counts} (R : Repetition (node_at t n)) → is_repeated (node_at t n) ≡ true → walk room (d + 1) (tree_at t v.p) ≡ Counted c
       → Known t o v.p → left_of o n v ≡ bare (tree_at t n)
   unfolding left_of bare
-  copied-left R r e K =
+  copied_left R r e K =
       pick_true _ _ r
-      ∙ rw (bare-known (operand_expandable S h ((words S h).consec_under R.kind) e) K, is_finite S.formed S.inside refl R.kind R.limited) refl
+      ∙ rw (bare_known (operand_expandable S h ((words S h).consec_under R.kind) e) K, is_finite S.formed S.inside refl R.kind R.limited) refl
 
   module _ {m k : ℕ} (e : m ≡ visits (node_at t n)) (last : m ≤ k) {o o' : List ℕ} {c : Counts} (J : Joining t n room d o k c o') where
     pub answerable : nodes t ≤ length o → Answerable t o' n
@@ -170,25 +170,25 @@ module _ {t : List ℕ} {n room d : ℕ} (S : Countable t n room d) (h : d ≤ 2
         by (both kind r' two left right) (second l r o₁ _ one _ other _ made) =
             let one' = rw left at one in
             let other' = rw right at other in
-            u ∙ delay-answer c kind r' ∙ ap (λ (x : Counts). limit room n (delay_counts v x)) made ∙ delay_decided S h kind one' other' ∙ sym (delay-walk S h kind ∙ rw (one', other') refl)
+            u ∙ delay_answer c kind r' ∙ ap (λ (x : Counts). limit room n (delay_counts v x)) made ∙ delay_decided S h kind one' other' ∙ sym (delay_walk S h kind ∙ rw (one', other') refl)
         by (both kind r' two left right) (nothing_yet z' _ _) = absurd (omega arith)
         by (both kind r' two left right) (first z' _ _) = absurd (omega arith)
         by (covered_one kind f r' one under) (first _ counts _) =
             let counts' = rw under at counts in
-            u ∙ covered-answer c kind f r' ∙ throughout_decided S h kind counts' ∙ sym (throughout-walk S h kind ∙ rw counts' refl)
+            u ∙ covered_answer c kind f r' ∙ throughout_decided S h kind counts' ∙ sym (throughout_walk S h kind ∙ rw counts' refl)
         by (covered_one kind f r' one under) (nothing_yet z' _ _) = absurd (omega arith)
         by (covered_one kind f r' one under) (second l r o₁ z' _ _ _ _ _) = absurd (omega (arith, J.turn))
-        by (repeated-one R r' one under) (first _ counts _) =
+        by (repeated_one R r' one under) (first _ counts _) =
             let counts' = rw under at counts in
-            u ∙ repeated-answer c r' ∙ repetition_decided S h R counts' ∙ sym (repetition_walk S h R ∙ rw counts' refl)
-        by (repeated-one R r' one under) (nothing_yet z' _ _) = absurd (omega arith)
-        by (repeated-one R r' one under) (second l r o₁ z' _ _ _ _ _) = absurd (omega (arith, J.turn))
-        by (none f g r' zero) J = u ∙ unvisited-answer c f g r' ∙ sym (not_visited_walk S h refl f g r')
+            u ∙ repeated_answer c r' ∙ repetition_decided S h R counts' ∙ sym (repetition_walk S h R ∙ rw counts' refl)
+        by (repeated_one R r' one under) (nothing_yet z' _ _) = absurd (omega arith)
+        by (repeated_one R r' one under) (second l r o₁ z' _ _ _ _ _) = absurd (omega (arith, J.turn))
+        by (none f g r' zero) J = u ∙ unvisited_answer c f g r' ∙ sym (not_visited_walk S h refl f g r')
 
     -- The node's word stands behind those of its operands.
-    pub answer-noted : {z : Walked} {o'' : List ℕ} → nodes t ≤ length o → z ≡ walk room d (tree_at t n) → o'' ≡ noted o' n (left_of o' n (node_at t n)) z → WhereCounted z (Notes t n o o'')
+    pub answer_noted : {z : Walked} {o'' : List ℕ} → nodes t ≤ length o → z ≡ walk room d (tree_at t n) → o'' ≡ noted o' n (left_of o' n (node_at t n)) z → WhereCounted z (Notes t n o o'')
     unfolding bare
-    answer-noted {z} {o''} long own put = record { holds = λ counts is. by counts is (visiting v) J.joined }
+    answer_noted {z} {o''} long own put = record { holds = λ counts is. by counts is (visiting v) J.joined }
       where
         by : (counts : Counts) → z ≡ Counted counts → Visiting v → Joined t v room d o k c o' → Notes t n o o''
         by counts is (both kind r' two left right) (second l r o₁ _ _ N _ N' _) =
@@ -201,12 +201,12 @@ module _ {t : List ℕ} {n room d : ℕ} (S : Countable t n room d) (h : d ≤ 2
             throughout_notes t n o' (left_of o' n v) room d S.inside (itself o' r' ∙ sym (ap bare tree)) own is put tree (rw under at N)
         by counts is (covered_one kind f r' one under) (nothing_yet z' _ _) = absurd (omega arith)
         by counts is (covered_one kind f r' one under) (second l r o₁ z' _ _ _ _ _) = absurd (omega (arith, J.turn))
-        by counts is (repeated-one R r' one under) (first _ e₁ N) =
+        by counts is (repeated_one R r' one under) (first _ e₁ N) =
             let tree = is_finite S.formed S.inside refl R.kind R.limited in
             let N' = rw under at N in
-            repeated_notes t n o' (left_of o' n v) room d S.inside (copied-left R r' (rw under at e₁) N'.known) own is put tree R.live N'
-        by counts is (repeated-one R r' one under) (nothing_yet z' _ _) = absurd (omega arith)
-        by counts is (repeated-one R r' one under) (second l r o₁ z' _ _ _ _ _) = absurd (omega (arith, J.turn))
+            repeated_notes t n o' (left_of o' n v) room d S.inside (copied_left R r' (rw under at e₁) N'.known) own is put tree R.live N'
+        by counts is (repeated_one R r' one under) (nothing_yet z' _ _) = absurd (omega arith)
+        by counts is (repeated_one R r' one under) (second l r o₁ z' _ _ _ _ _) = absurd (omega (arith, J.turn))
         by counts is (none f g r' zero) (nothing_yet _ _ start) =
             let A = alone S.formed S.inside refl f g r' in
             rw start at (alone_notes t n o' (left_of o' n v) room d S.inside (itself o' r' ∙ A.itself) own is put (omega (arith, J.long)) A)

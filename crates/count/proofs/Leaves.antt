@@ -143,17 +143,17 @@ module _ (room n : ℕ) (v under : Node) {r : Walked} where
 
 -- The operand can be read: it is lower.
 module _ (t : List ℕ) (n : ℕ) (v : Node) (u : Unvisited t n v) (f : v.kind ≡ 7 → ⊥) (g : v.kind ≡ 1 → ⊥) where
-  operand-lower : v.p < n
-  operand-lower =
+  operand_lower : v.p < n
+  operand_lower =
       let w : WellFormed n v = rw u.words (u.formed.each n u.inside) in
       by_kind v.kind w.known (λ k. absurd (g k)) (λ k. absurd (u.no_delay k)) w.consec_under w.goto_under w.nonconsec_under
       (λ k. absurd (u.no_throughout k)) (λ k. absurd (f k))
 
-  pub operand-inside : v.p * 5 + 5 ≤ length t
-  operand-inside = let l = operand-lower in omega (arith, u.formed.whole, u.inside)
+  pub operand_inside : v.p * 5 + 5 ≤ length t
+  operand_inside = let l = operand_lower in omega (arith, u.formed.whole, u.inside)
 
-  pub operand-few : v.p < 4096
-  operand-few = let l = operand-lower in omega (arith, u.formed.few, u.inside)
+  pub operand_few : v.p < 4096
+  operand_few = let l = operand_lower in omega (arith, u.formed.few, u.inside)
 
 -- A root within.
 module _ (room n : ℕ) (x y : Counts) {b fx fy : Bool} (e : fx ≡ fits_within x) (q : fy ≡ fits_within y) (z : b ≡ pick fx fy false) where
@@ -169,36 +169,36 @@ module _ (room n : ℕ) (x y : Counts) {b fx fy : Bool} (e : fx ≡ fits_within 
 -- ---- a node's answer, and its word
 
 -- 10: what is not refused has few alternatives.
-few-limited : (room n : ℕ) (c : Counts) → FewCounted (limit room n c)
+few_limited : (room n : ℕ) (c : Counts) → FewCounted (limit room n c)
 unfolding limit FewCounted
-few-limited room n c =
+few_limited room n c =
     pick_case FewCounted (ltb 256 c.alternatives) (λ _. tt)
     (λ many. pick_case FewCounted (ltb room c.entries) (λ _. tt) (λ _. ltb-false 256 c.alternatives many))
 
-few-covered : (room n : ℕ) (s : Counts) → FewCounted (covered room n s)
+few_covered : (room n : ℕ) (s : Counts) → FewCounted (covered room n s)
 unfolding covered FewCounted
-few-covered room n s = pick_case FewCounted s.plain (λ _. few-limited room n (guarded_each s)) (λ _. tt)
+few_covered room n s = pick_case FewCounted s.plain (λ _. few_limited room n (guarded_each s)) (λ _. tt)
 
-few-unvisited : (room n : ℕ) (v under : Node) → FewCounted (unvisited room n v under)
+few_unvisited : (room n : ℕ) (v under : Node) → FewCounted (unvisited room n v under)
 unfolding unvisited over_node FewCounted
-few-unvisited room n v under =
+few_unvisited room n v under =
     pick_case FewCounted (eqb v.kind 7) (λ _. tt)
-    (λ _. pick_case FewCounted (eqb v.kind 1) (λ _. few-limited room n bool_term)
-    (λ _. pick_case FewCounted (pick (eqb v.kind 3) (eqb v.max 0) false) (λ _. few-limited room n other_term)
+    (λ _. pick_case FewCounted (eqb v.kind 1) (λ _. few_limited room n bool_term)
+    (λ _. pick_case FewCounted (pick (eqb v.kind 3) (eqb v.max 0) false) (λ _. few_limited room n other_term)
     (λ _. pick_case FewCounted (ltb 256 v.min) (λ _. tt)
-    (λ _. pick_case FewCounted (eqb under.kind 1) (λ _. few-limited room n (with_empty v.min other_term)) (λ _. tt)))))
+    (λ _. pick_case FewCounted (eqb under.kind 1) (λ _. few_limited room n (with_empty v.min other_term)) (λ _. tt)))))
 
 module _ (room n : ℕ) (v : Node) (c : Counts) {z : Walked} where
-  pub few-repeated : z ≡ repeated room n v c → FewCounted z
+  pub few_repeated : z ≡ repeated room n v c → FewCounted z
   unfolding repeated FewCounted
-  few-repeated e = rw e (pick_case FewCounted (ltb 256 v.max) (λ _. tt) (λ _. few-limited room n (consec_counts v c)))
+  few_repeated e = rw e (pick_case FewCounted (ltb 256 v.max) (λ _. tt) (λ _. few_limited room n (consec_counts v c)))
 
-  pub few-unrepeated : (under : Node) → z ≡ unrepeated room n v under c → FewCounted z
+  pub few_unrepeated : (under : Node) → z ≡ unrepeated room n v under c → FewCounted z
   unfolding unrepeated
-  few-unrepeated under e =
+  few_unrepeated under e =
       rw e
-      (pick_case FewCounted (eqb v.kind 2) (λ _. few-limited room n (delay_counts v c))
-      (λ _. pick_case FewCounted (eqb v.kind 6) (λ _. few-covered room n c) (λ _. few-unvisited room n v under)))
+      (pick_case FewCounted (eqb v.kind 2) (λ _. few_limited room n (delay_counts v c))
+      (λ _. pick_case FewCounted (eqb v.kind 6) (λ _. few_covered room n c) (λ _. few_unvisited room n v under)))
 
   -- The returns of `unrepeated`.
   pub delay_made : {r : Counts} (under : Node) → v.kind ≡ 2 → r ≡ delay_counts v c → z ≡ limit room n r → z ≡ unrepeated room n v under c
@@ -215,11 +215,11 @@ module _ {t : List ℕ} {n : ℕ} {v : Node} (W : WordsOf t n v) where
 
 -- `answered`: the node can be read, and so can the operand's word; v are the node's words, z is what `noted` was handed.
 module _ {t o : List ℕ} {n : ℕ} (A : Answerable t o n) where
-  pub node-inside : n * 5 + 5 ≤ length t
-  node-inside = omega (arith, A.formed.whole, A.inside)
+  pub node_inside : n * 5 + 5 ≤ length t
+  node_inside = omega (arith, A.formed.whole, A.inside)
 
-  pub node-few : n < 4096
-  node-few = omega (arith, A.formed.few, A.inside)
+  pub node_few : n < 4096
+  node_few = omega (arith, A.formed.few, A.inside)
 
   pub node_notable : n < length o
   node_notable = omega (arith, A.inside, A.long)
@@ -233,8 +233,8 @@ module _ {t o : List ℕ} {n : ℕ} (A : Answerable t o n) where
         R : Repetition v
         R = repetition v r y
 
-        pub copied-inside : v.p < length o
-        copied-inside = omega (arith, (well_formed A.formed A.inside w).consec_under R.kind, A.inside, A.long)
+        pub copied_inside : v.p < length o
+        copied_inside = omega (arith, (well_formed A.formed A.inside w).consec_under R.kind, A.inside, A.long)
 
         pub repeated_ranged : v.min ≤ v.max
         repeated_ranged = (well_formed A.formed A.inside w).consec_range R.kind
@@ -243,26 +243,26 @@ module _ {t o : List ℕ} {n : ℕ} (A : Answerable t o n) where
         module _ {left : ℕ} (e : left ≡ pick (is_once v.min (finite v.max)) (bare_in o v.p) n) where
           pub left_small : left < 4096
           unfolding bare_in
-          left_small = rw e (pick_case (λ (k : ℕ). k < 4096) (is_once v.min (finite v.max)) (λ _. omega arith) (λ _. node-few))
+          left_small = rw e (pick_case (λ (k : ℕ). k < 4096) (is_once v.min (finite v.max)) (λ _. omega arith) (λ _. node_few))
 
-          pub repeated-noted : {o' : List ℕ} {z a : Walked} → a ≡ z → o' ≡ noted o n left z → o' ≡ noted o n (left_of o n (node_at t n)) a
+          pub repeated_noted : {o' : List ℕ} {z a : Walked} → a ≡ z → o' ≡ noted o n left z → o' ≡ noted o n (left_of o n (node_at t n)) a
           unfolding left_of
-          repeated-noted back put = put ∙ rw (back, ← w, pick_true {b = is_repeated v} (pick (is_once v.min (finite v.max)) (bare_in o v.p) n) n (sym r ∙ y), e) refl
+          repeated_noted back put = put ∙ rw (back, ← w, pick_true {b = is_repeated v} (pick (is_once v.min (finite v.max)) (bare_in o v.p) n) n (sym r ∙ y), e) refl
 
-        pub repeated-answer : (room : ℕ) (c : Counts) {z a : Walked} → a ≡ z → z ≡ repeated room n v c
+        pub repeated_answer : (room : ℕ) (c : Counts) {z a : Walked} → a ≡ z → z ≡ repeated room n v c
             → a ≡ answer room n (node_at t n) (node_at t (node_at t n).p) c
         unfolding answer
-        repeated-answer room c back e = rw (← w) (pick_yes _ (sym r ∙ y) (back ∙ e))
+        repeated_answer room c back e = rw (← w) (pick_yes _ (sym r ∙ y) (back ∙ e))
 
       module _ (y : b ≡ false) where
-        pub unrepeated-noted : {o' : List ℕ} {z a : Walked} → a ≡ z → o' ≡ noted o n n z → o' ≡ noted o n (left_of o n (node_at t n)) a
+        pub unrepeated_noted : {o' : List ℕ} {z a : Walked} → a ≡ z → o' ≡ noted o n n z → o' ≡ noted o n (left_of o n (node_at t n)) a
         unfolding left_of
-        unrepeated-noted back put = put ∙ rw (back, ← w, pick_false {b = is_repeated v} (pick (is_once v.min (finite v.max)) (bare_in o v.p) n) n (sym r ∙ y)) refl
+        unrepeated_noted back put = put ∙ rw (back, ← w, pick_false {b = is_repeated v} (pick (is_once v.min (finite v.max)) (bare_in o v.p) n) n (sym r ∙ y)) refl
 
-        pub unrepeated-answer : (room : ℕ) (c : Counts) {z a : Walked} → a ≡ z → z ≡ unrepeated room n v (node_at t v.p) c
+        pub unrepeated_answer : (room : ℕ) (c : Counts) {z a : Walked} → a ≡ z → z ≡ unrepeated room n v (node_at t v.p) c
             → a ≡ answer room n (node_at t n) (node_at t (node_at t n).p) c
         unfolding answer
-        unrepeated-answer room c back e = rw (← w) (pick_no _ (sym r ∙ y) (back ∙ e))
+        unrepeated_answer room c back e = rw (← w) (pick_no _ (sym r ∙ y) (back ∙ e))
 
 -- `visits` and `operand`: v are the node's words.
 module _ (t : List ℕ) (n : ℕ) {v : Node} (w : v ≡ node_at t n) where
@@ -271,27 +271,27 @@ module _ (t : List ℕ) (n : ℕ) {v : Node} (w : v ≡ node_at t n) where
   visits_both k = rw (← w) (pick_yes _ (eq-eqb _ _ k) refl)
 
   module _ (f : v.kind ≡ 2 → ⊥) where
-    pub visits-covered : v.kind ≡ 6 → 1 ≡ visits (node_at t n)
+    pub visits_covered : v.kind ≡ 6 → 1 ≡ visits (node_at t n)
     unfolding visits
-    visits-covered k = rw (← w) (pick_no _ (ne_eqb _ _ f) (pick_yes _ (eq-eqb _ _ k) refl))
+    visits_covered k = rw (← w) (pick_no _ (ne_eqb _ _ f) (pick_yes _ (eq-eqb _ _ k) refl))
 
     module _ (g : v.kind ≡ 6 → ⊥) {b : Bool} (r : b ≡ is_repeated v) where
-      pub visits-repeated : b ≡ true → 1 ≡ visits (node_at t n)
+      pub visits_repeated : b ≡ true → 1 ≡ visits (node_at t n)
       unfolding visits
-      visits-repeated y = rw (← w) (pick_no _ (ne_eqb _ _ f) (pick_no _ (ne_eqb _ _ g) (pick_yes _ (sym r ∙ y) refl)))
+      visits_repeated y = rw (← w) (pick_no _ (ne_eqb _ _ f) (pick_no _ (ne_eqb _ _ g) (pick_yes _ (sym r ∙ y) refl)))
 
-      pub visits-none : b ≡ false → 0 ≡ visits (node_at t n)
+      pub visits_none : b ≡ false → 0 ≡ visits (node_at t n)
       unfolding visits
-      visits-none y = rw (← w) (pick_no _ (ne_eqb _ _ f) (pick_no _ (ne_eqb _ _ g) (pick_no _ (sym r ∙ y) refl)))
+      visits_none y = rw (← w) (pick_no _ (ne_eqb _ _ f) (pick_no _ (ne_eqb _ _ g) (pick_no _ (sym r ∙ y) refl)))
 
   module _ (k : ℕ) where
     pub second_operand : k ≡ 1 → v.q ≡ operand_at (node_at t n) k
     unfolding operand_at
     second_operand e = rw (← w) (pick_yes _ (eq-eqb _ _ e) refl)
 
-    pub covered-operand : (k ≡ 1 → ⊥) → v.kind ≡ 6 → v.q ≡ operand_at (node_at t n) k
+    pub covered_operand : (k ≡ 1 → ⊥) → v.kind ≡ 6 → v.q ≡ operand_at (node_at t n) k
     unfolding operand_at
-    covered-operand f e = rw (← w) (pick_no _ (ne_eqb _ _ f) (pick_yes _ (eq-eqb _ _ e) refl))
+    covered_operand f e = rw (← w) (pick_no _ (ne_eqb _ _ f) (pick_yes _ (eq-eqb _ _ e) refl))
 
     pub first_operand : (k ≡ 1 → ⊥) → (v.kind ≡ 6 → ⊥) → v.p ≡ operand_at (node_at t n) k
     unfolding operand_at

@@ -23,7 +23,7 @@ use Rattle.outline.proofs.Laws.{no_repetition}
 use Rattle.outline.proofs.ByWords.{well_formed, is_atom, is_delay, is_consec, is_unbounded, is_goto, is_nonconsec, is_throughout, is_within}
 use Rattle.count.specs.Capped.{bool_term, other_term, with_empty}
 use Rattle.count.specs.Nodes.{Countable, limit, over_node, unvisited}
-use Rattle.count.proofs.Stands.{exact, Stands, limit-stands, other_term-stands, with_empty-stands}
+use Rattle.count.proofs.Stands.{exact, Stands, limit_stands, other_term_stands, with_empty_stands}
 
 -- A tree is one Boolean where its node is an atom.
 is_an_atom : (t : List ℕ) (k : ℕ) → FormedTable t → k < nodes t → is_boolean (operand (tree_at t k)) ≡ eqb (node_at t k).kind 1
@@ -38,11 +38,11 @@ is_an_atom t k formed inside =
     (λ e. rw (is_within formed inside refl e, e) refl)
 
 -- 5 and 6 over a Boolean, where the counts stand for what is made of it.
-over-stands : (room n count : ℕ) (x : Operand) (f : ℕ → List SeqAlt) (c : Counts) → room ≤ 65536 → ((b : ℕ) → Stands c (f b))
+over_stands : (room n count : ℕ) (x : Operand) (f : ℕ → List SeqAlt) (c : Counts) → room ≤ 65536 → ((b : ℕ) → Stands c (f b))
     → over_boolean n count x (limited room n (over x f)) ≡ pick (ltb 256 count) (Refused 5 n) (pick (is_boolean x) (limit room n c) (Refused 6 n))
 unfolding over_boolean
-over-stands room n count (boolean b) f c h s = rw (limit-stands room n h (s b)) refl
-over-stands room n count other f c h s = pick_cong (ltb 256 count) (λ _. refl) (λ _. sixth)
+over_stands room n count (boolean b) f c h s = rw (limit_stands room n h (s b)) refl
+over_stands room n count other f c h s = pick_cong (ltb 256 count) (λ _. refl) (λ _. sixth)
   where
     sixth : pick false (limited room n []) (Refused 6 n) ≡ pick false (limit room n c) (Refused 6 n)
     sixth = pick_false _ _ refl ∙ sym (pick_false _ _ refl)
@@ -50,12 +50,12 @@ over-stands room n count other f c h s = pick_cong (ltb 256 count) (λ _. refl) 
 -- A repetition from 1 on has no Empty.
 one_term_stands : (m : ℕ) (x : SeqTerm) → 1 ≤ m → is_bool x ≡ false → Stands (with_empty m other_term) (single x ∷ [])
 one_term_stands zero x some e = absurd (omega arith)
-one_term_stands (suc m) x some e = with_empty-stands (suc m) (other_term-stands x e)
+one_term_stands (suc m) x some e = with_empty_stands (suc m) (other_term_stands x e)
 
 -- An atom's one alternative.
-bool_term-stands : (a : ℕ) → Stands bool_term (single (BoolTerm a) ∷ [])
+bool_term_stands : (a : ℕ) → Stands bool_term (single (BoolTerm a) ∷ [])
 unfolding pick
-bool_term-stands a = record { numbers = exact refl refl; plainly = refl; guardedly = refl }
+bool_term_stands a = record { numbers = exact refl refl; plainly = refl; guardedly = refl }
 
 -- At a depth that 4 lets pass, the walk is the node's own part.
 pub not_too_deep : (room d : ℕ) (s : Seq) → d ≤ 256 → walk room d s ≡ walk_in room d s
@@ -72,35 +72,35 @@ module _ {t : List ℕ} {n room d : ℕ} {v : Node} (S : Countable t n room d) (
   walk_at {s} e = rw e (not_too_deep room d s h)
 
   -- A within that is walked is refused with 8.
-  at-a_within : v.kind ≡ 7 → walk room d (tree_at t n) ≡ Refused 8 n
+  at_a_within : v.kind ≡ 7 → walk room d (tree_at t n) ≡ Refused 8 n
   unfolding walk_in
-  at-a_within k = walk_at (is_within S.formed S.inside w k)
+  at_a_within k = walk_at (is_within S.formed S.inside w k)
 
   -- An atom: 10 and 11 of one Bool term.
   at_an_atom : v.kind ≡ 1 → walk room d (tree_at t n) ≡ limit room n bool_term
   unfolding walk_in
-  at_an_atom k = walk_at (is_atom S.formed S.inside w k) ∙ sym (limit-stands room n S.rooms (bool_term-stands _))
+  at_an_atom k = walk_at (is_atom S.formed S.inside w k) ∙ sym (limit_stands room n S.rooms (bool_term_stands _))
 
   -- [*0]: 10 and 11 of one Empty, whatever the operand is.
   at_no_repetition : v.kind ≡ 3 → v.max ≡ 0 → walk room d (tree_at t n) ≡ limit room n other_term
   unfolding walk_in
   at_no_repetition k e =
       walk_at (is_consec S.formed S.inside w k (finite_max v.max (λ q. omega arith) ∙ ap finite e))
-      ∙ sym (limit-stands room n S.rooms (other_term-stands Empty refl))
+      ∙ sym (limit_stands room n S.rooms (other_term_stands Empty refl))
 
   -- The three kinds that stand over a Boolean.
   over_an_operand : (g : ℕ → List SeqAlt) → v.p < n → ((b : ℕ) → Stands (with_empty v.min other_term) (g b))
       → over_boolean n v.min (operand (tree_at t v.p)) (limited room n (over (operand (tree_at t v.p)) g)) ≡ over_node room n v (node_at t v.p)
   unfolding over_node
   over_an_operand g l s =
-      over-stands room n _ (operand (tree_at t v.p)) g _ S.rooms s ∙ rw (is_an_atom t v.p S.formed (omega (arith, S.inside))) refl
+      over_stands room n _ (operand (tree_at t v.p)) g _ S.rooms s ∙ rw (is_an_atom t v.p S.formed (omega (arith, S.inside))) refl
 
   -- A walked [*m:$] is answered as a node over its operand.
   at_a_run : v.kind ≡ 3 → v.max ≡ unlimited → walk room d (tree_at t n) ≡ over_node room n v (node_at t v.p)
   unfolding walk_in
   at_a_run k e =
       walk_at (is_unbounded S.formed S.inside w k e)
-      ∙ over_an_operand (consec_unbounded v.min) (f.consec_under k) (λ b. with_empty-stands _ (other_term-stands _ refl))
+      ∙ over_an_operand (consec_unbounded v.min) (f.consec_under k) (λ b. with_empty_stands _ (other_term_stands _ refl))
 
   -- A walked goto is answered as a node over its operand.
   at_a_goto : v.kind ≡ 4 → walk room d (tree_at t n) ≡ over_node room n v (node_at t v.p)
@@ -126,7 +126,7 @@ module _ {t : List ℕ} {n room d : ℕ} {v : Node} (S : Countable t n room d) (
       (λ k. at_a_goto k ∙ rw k refl)
       (λ k. at_a_nonconsec k ∙ rw k refl)
       (λ k. absurd (no_throughout k))
-      (λ k. at-a_within k ∙ rw k refl)
+      (λ k. at_a_within k ∙ rw k refl)
     where
       no_or_run : v.kind ≡ 3 → Dec (v.max ≡ 0) → walk room d (tree_at t n) ≡ unvisited room n v (node_at t v.p)
       no_or_run k (yes q) = at_no_repetition k q ∙ rw (k, q) refl

@@ -17,8 +17,8 @@ use Rattle.meaning.specs.declared.Counts.{Counts}
 use Rattle.meaning.specs.declared.SeqTerm.{SeqTerm}
 use Rattle.meaning.specs.declared.SeqTerm.TheVariants.{Empty}
 use Rattle.meaning.specs.declared.SeqHop.TheVariants.{Fixed}
-use Rattle.meaning.proofs.Counting.{alternatives_of, entries_of, tally_append, tally_lefts, tally_delay, throughout-tallied}
-use Rattle.meaning.proofs.Flags.{AllLed, some-copies, plain-append, guarded-append, plain_lefts, guarded_lefts, plain-delay, guarded-delay, at_least_is_not_plain, plain_guards, guarded_guards}
+use Rattle.meaning.proofs.Counting.{alternatives_of, entries_of, tally_append, tally_lefts, tally_delay, throughout_tallied}
+use Rattle.meaning.proofs.Flags.{AllLed, some_copies, plain_append, guarded_append, plain_lefts, guarded_lefts, plain_delay, guarded_delay, at_least_is_not_plain, plain_guards, guarded_guards}
 use Rattle.count.specs.Capped.{counts_of, nothing, other_term, capped, product, sum, times, copied, summed, with_empty as empty_counted, not_plain, guarded_each}
 use Rattle.count.specs.Nodes.{limit}
 
@@ -117,8 +117,8 @@ unfolding counts
 counts_stand e = record { numbers = exact (sym (ap (λ (c : Counts). c.alternatives) e)) (sym (ap (λ (c : Counts). c.entries) e)); plainly = ap (λ (c : Counts). c.plain) e; guardedly = ap (λ (c : Counts). c.guarded) e }
 
 -- Capped numbers stand for alternatives, where the numbers decide the same as theirs.
-capped-stands : {alts : List SeqAlt} {a e : ℕ} {p g : Bool} → Same (length alts) (entries alts) a e → p ≡ plain alts → g ≡ guarded alts → Stands (capped a e p g) alts
-capped-stands {alts} {a} {e} {p} {g} same pl gu = record { numbers = stopped a e p g same; plainly = flags.0 ∙ pl; guardedly = flags.1 ∙ gu }
+capped_stands : {alts : List SeqAlt} {a e : ℕ} {p g : Bool} → Same (length alts) (entries alts) a e → p ≡ plain alts → g ≡ guarded alts → Stands (capped a e p g) alts
+capped_stands {alts} {a} {e} {p} {g} same pl gu = record { numbers = stopped a e p g same; plainly = flags.0 ∙ pl; guardedly = flags.1 ∙ gu }
   where
     flags : ((capped a e p g).plain ≡ p) × ((capped a e p g).guarded ≡ g)
     flags = capped_flags a e p g
@@ -140,47 +140,47 @@ limit_same room n {a} {e} {p} {g} {c} h (exact i j) q z =
     let is : c ≡ counts_of a e p g = λ k. counts_of (sym i k) (sym j k) (q k) (z k) in rw is refl
 
 -- 10 and 11 decide by capped numbers what they decide by the numbers.
-pub limit-capped : (room n a e : ℕ) (p g : Bool) → room ≤ 65536 → limit room n (capped a e p g) ≡ limit room n (counts_of a e p g)
-limit-capped room n a e p g h = limit_same room n h (stopped a e p g (exact refl refl)) (capped_flags a e p g).0 (capped_flags a e p g).1
+pub limit_capped : (room n a e : ℕ) (p g : Bool) → room ≤ 65536 → limit room n (capped a e p g) ≡ limit room n (counts_of a e p g)
+limit_capped room n a e p g h = limit_same room n h (stopped a e p g (exact refl refl)) (capped_flags a e p g).0 (capped_flags a e p g).1
 
 -- 10 and 11 decide by counts what they decide by the list for which the counts stand.
-pub limit-stands : (room n : ℕ) {c : Counts} {alts : List SeqAlt} → room ≤ 65536 → Stands c alts → limit room n c ≡ limited room n alts
+pub limit_stands : (room n : ℕ) {c : Counts} {alts : List SeqAlt} → room ≤ 65536 → Stands c alts → limit room n c ≡ limited room n alts
 unfolding limit limited counts
-limit-stands room n h s = limit_same room n h s.numbers s.plainly s.guardedly
+limit_stands room n h s = limit_same room n h s.numbers s.plainly s.guardedly
 
 -- Every left with every right, for one fixed hop.
-pub product-stands : (d : ℕ) {l r : Counts} {ls rs : List SeqAlt} → Stands l ls → Stands r rs → 1 ≤ length ls → 1 ≤ length rs → AllLed rs
+pub product_stands : (d : ℕ) {l r : Counts} {ls rs : List SeqAlt} → Stands l ls → Stands r rs → 1 ≤ length ls → 1 ≤ length rs → AllLed rs
     → Stands (product l r) (join_lefts (Fixed d) ls rs)
 unfolding product
-product-stands d {l} {r} {ls} {rs} x y some_l some_r led =
+product_stands d {l} {r} {ls} {rs} x y some_l some_r led =
     let t = tally_lefts (Fixed d) ls rs in
-    capped-stands (along (ap alternatives_of t) (ap entries_of t) (same_products some_l some_r x.numbers y.numbers))
+    capped_stands (along (ap alternatives_of t) (ap entries_of t) (same_products some_l some_r x.numbers y.numbers))
     (rw (x.plainly, y.plainly) (sym (plain_lefts ls rs some_l some_r d led)))
     (rw (x.guardedly, y.guardedly) (sym (guarded_lefts ls rs some_l some_r (Fixed d))))
 
 -- One list after another.
-pub sum-stands : {l r : Counts} {xs ys : List SeqAlt} → Stands l xs → Stands r ys → Stands (sum l r) (xs ++ ys)
+pub sum_stands : {l r : Counts} {xs ys : List SeqAlt} → Stands l xs → Stands r ys → Stands (sum l r) (xs ++ ys)
 unfolding sum
-sum-stands {l} {r} {xs} {ys} x y =
+sum_stands {l} {r} {xs} {ys} x y =
     let t = tally_append xs ys in
-    capped-stands (along (ap alternatives_of t) (ap entries_of t) (same_sums x.numbers y.numbers))
-    (rw (x.plainly, y.plainly) (sym (plain-append xs ys)))
-    (rw (x.guardedly, y.guardedly) (sym (guarded-append xs ys)))
+    capped_stands (along (ap alternatives_of t) (ap entries_of t) (same_sums x.numbers y.numbers))
+    (rw (x.plainly, y.plainly) (sym (plain_append xs ys)))
+    (rw (x.guardedly, y.guardedly) (sym (guarded_append xs ys)))
 
 -- Nothing, and the one alternative of a term that is no Bool.
-nothing-stands : Stands nothing []
-nothing-stands = record { numbers = exact refl refl; plainly = refl; guardedly = refl }
+nothing_stands : Stands nothing []
+nothing_stands = record { numbers = exact refl refl; plainly = refl; guardedly = refl }
 
 -- One alternative of a term that is no Bool.
-pub other_term-stands : (x : SeqTerm) → is_bool x ≡ false → Stands other_term (single x ∷ [])
+pub other_term_stands : (x : SeqTerm) → is_bool x ≡ false → Stands other_term (single x ∷ [])
 unfolding pick
-other_term-stands x e = record { numbers = exact refl refl; plainly = rw e refl; guardedly = refl }
+other_term_stands x e = record { numbers = exact refl refl; plainly = rw e refl; guardedly = refl }
 
 -- Counts with the Empty of a minimum of 0 stand for the alternatives with it.
-pub with_empty-stands : (m : ℕ) {c : Counts} {alts : List SeqAlt} → Stands c alts → Stands (empty_counted m c) (with_empty m alts)
+pub with_empty_stands : (m : ℕ) {c : Counts} {alts : List SeqAlt} → Stands c alts → Stands (empty_counted m c) (with_empty m alts)
 unfolding empty_counted pick
-with_empty-stands zero s = sum-stands (other_term-stands Empty refl) s
-with_empty-stands (suc m) s = rw (ne_eqb (suc m) 0 (λ e. omega arith)) s
+with_empty_stands zero s = sum_stands (other_term_stands Empty refl) s
+with_empty_stands (suc m) s = rw (ne_eqb (suc m) 0 (λ e. omega arith)) s
 
 -- The numbers of a product decide the same as those of the joined lists.
 product_numbers : {ls rs : List SeqAlt} (l r : Counts) → Stands l ls → Stands r rs → 1 ≤ length ls → 1 ≤ length rs
@@ -189,39 +189,39 @@ unfolding product
 product_numbers l r x y some_l some_r = stopped _ _ _ _ (same_products some_l some_r x.numbers y.numbers)
 
 -- The flags of a product are joined and not capped.
-product-plain : (l r : Counts) → (product l r).plain ≡ pick l.plain r.plain false
+product_plain : (l r : Counts) → (product l r).plain ≡ pick l.plain r.plain false
 unfolding product
-product-plain l r = (capped_flags _ _ _ _).0
+product_plain l r = (capped_flags _ _ _ _).0
 
-product-guarded : (l r : Counts) → (product l r).guarded ≡ pick l.guarded true r.guarded
+product_guarded : (l r : Counts) → (product l r).guarded ≡ pick l.guarded true r.guarded
 unfolding product
-product-guarded l r = (capped_flags _ _ _ _).1
+product_guarded l r = (capped_flags _ _ _ _).1
 
 -- A base and its counts.
 module _ (base : List SeqAlt) (b : Counts) (stands : Stands b base) (some : 1 ≤ length base) (led : AllLed base) where
   one_copy_more : (j : ℕ) {x : Counts} → Stands x (copies base j) → Stands (product x b) (copies base (suc j))
-  one_copy_more j s = product-stands 1 s stands (some-copies base j some) some led
+  one_copy_more j s = product_stands 1 s stands (some_copies base j some) some led
 
   -- Counts that stand for copies stand for k copies more.
-  copied-stands : (j k : ℕ) {x : Counts} → Stands x (copies base j) → Stands (copied b x k) (copies base (k + j))
+  copied_stands : (j k : ℕ) {x : Counts} → Stands x (copies base j) → Stands (copied b x k) (copies base (k + j))
   unfolding copied
-  copied-stands j zero s = let e : 0 + j ≡ j = omega arith in rw e s
-  copied-stands j (suc k) s = let e : suc k + j ≡ k + suc j = omega arith in rw e (copied-stands (suc j) k (one_copy_more j s))
+  copied_stands j zero s = let e : 0 + j ≡ j = omega arith in rw e s
+  copied_stands j (suc k) s = let e : suc k + j ≡ k + suc j = omega arith in rw e (copied_stands (suc j) k (one_copy_more j s))
 
   -- The sum of counts that stand for copies stands for the copies in a row.
-  summed-stands : (j count : ℕ) {total x : Counts} {xs : List SeqAlt} → Stands total xs → Stands x (copies base j)
+  summed_stands : (j count : ℕ) {total x : Counts} {xs : List SeqAlt} → Stands total xs → Stands x (copies base j)
       → Stands (summed b total x count) (xs ++ copies_from base j count)
   unfolding summed
-  summed-stands j zero {xs = xs} s c = rw (append-nil xs) s
-  summed-stands j (suc count) {xs = xs} s c =
-      rw (← append_assoc xs (copies base j) (copies_from base (suc j) count)) (summed-stands (suc j) count (sum-stands s c) (one_copy_more j c))
+  summed_stands j zero {xs = xs} s c = rw (append-nil xs) s
+  summed_stands j (suc count) {xs = xs} s c =
+      rw (← append_assoc xs (copies base j) (copies_from base (suc j) count)) (summed_stands (suc j) count (sum_stands s c) (one_copy_more j c))
 
   -- A finite [*m:x], x not 0.
-  pub consec-stands : (m x : ℕ) → (x ≡ 0 → ⊥) → Stands (empty_counted m (summed b nothing (copied b b (below m)) (x - below m))) (consec_finite base m x)
-  consec-stands m zero f = absurd (f refl)
-  consec-stands m (suc x) f =
-      let first = let e : below m + 0 ≡ below m = omega arith in rw e at (copied-stands 0 (below m) stands) in
-      with_empty-stands m (summed-stands (below m) (suc x - below m) nothing-stands first)
+  pub consec_stands : (m x : ℕ) → (x ≡ 0 → ⊥) → Stands (empty_counted m (summed b nothing (copied b b (below m)) (x - below m))) (consec_finite base m x)
+  consec_stands m zero f = absurd (f refl)
+  consec_stands m (suc x) f =
+      let first = let e : below m + 0 ≡ below m = omega arith in rw e at (copied_stands 0 (below m) stands) in
+      with_empty_stands m (summed_stands (below m) (suc x - below m) nothing_stands first)
 
 -- The counts of a delay stand for its operands joined by each fixed hop from m to x.
 module _ (ls rs : List SeqAlt) (l r : Counts) (s : Stands l ls) (q : Stands r rs) (some_l : 1 ≤ length ls) (some_r : 1 ≤ length rs) (led : AllLed rs) where
@@ -233,9 +233,9 @@ module _ (ls rs : List SeqAlt) (l r : Counts) (s : Stands l ls) (q : Stands r rs
       let p = product_numbers l r s q some_l some_r in
       let i = ap alternatives_of t ∙ ap (λ (k : ℕ). k * (length ls * length rs)) n in
       let j = ap entries_of t ∙ ap (λ (k : ℕ). k * (entries ls * length rs + length ls * entries rs)) n in
-      capped-stands (along i j (same_multiples (x - m + 1) (omega arith) p))
-      (product-plain l r ∙ rw (s.plainly, q.plainly) (sym (plain-delay ls rs some_l some_r m x range led)))
-      (product-guarded l r ∙ rw (s.guardedly, q.guardedly) (sym (guarded-delay ls rs some_l some_r m (finite x) range)))
+      capped_stands (along i j (same_multiples (x - m + 1) (omega arith) p))
+      (product_plain l r ∙ rw (s.plainly, q.plainly) (sym (plain_delay ls rs some_l some_r m x range led)))
+      (product_guarded l r ∙ rw (s.guardedly, q.guardedly) (sym (guarded_delay ls rs some_l some_r m (finite x) range)))
 
   -- The product, not plain, stands for the operands joined by one "at least" hop.
   pub at_least_stands : (m : ℕ) → Stands (not_plain (product l r)) (join_hops (hops m unbounded) ls rs)
@@ -244,18 +244,18 @@ module _ (ls rs : List SeqAlt) (l r : Counts) (s : Stands l ls) (q : Stands r rs
       record {
         numbers = along (ap alternatives_of t ∙ once _) (ap entries_of t ∙ once _) (product_numbers l r s q some_l some_r);
         plainly = sym (at_least_is_not_plain ls rs some_l some_r m led);
-        guardedly = product-guarded l r ∙ rw (s.guardedly, q.guardedly) (sym (guarded-delay ls rs some_l some_r m unbounded tt));
+        guardedly = product_guarded l r ∙ rw (s.guardedly, q.guardedly) (sym (guarded_delay ls rs some_l some_r m unbounded tt));
       }
     where
       once : (n : ℕ) → 1 * n ≡ n
       once n = omega arith
 
 -- The guarded counts of a throughout's operand stand for its guarded alternatives.
-pub guarded_each-stands : (c : ℕ) (alts : List SeqAlt) (s : Counts) → Stands s alts → 1 ≤ length alts → Stands (guarded_each s) (guard_each c alts)
+pub guarded_each_stands : (c : ℕ) (alts : List SeqAlt) (s : Counts) → Stands s alts → 1 ≤ length alts → Stands (guarded_each s) (guard_each c alts)
 unfolding guarded_each
-guarded_each-stands c alts s q some =
-    let t = throughout-tallied c alts in
-    capped-stands (along (ap alternatives_of t) (ap entries_of t) (with_guards q.numbers))
+guarded_each_stands c alts s q some =
+    let t = throughout_tallied c alts in
+    capped_stands (along (ap alternatives_of t) (ap entries_of t) (with_guards q.numbers))
     (q.plainly ∙ sym (plain_guards c alts)) (sym (guarded_guards c alts some))
   where
     with_guards : {a e a' e' : ℕ} → Same a e a' e' → Same a (e + a) a' (e' + a')

@@ -27,25 +27,25 @@ use Rattle.outline.proofs.Laws.{Repetition, repetition}
 use Rattle.outline.proofs.ByWords.{is_delay, is_finite, is_throughout}
 use Rattle.count.specs.Capped.{neutral, Small, product, guarded_each}
 use Rattle.count.specs.Nodes.{Countable, limit, delay_counts, consec_counts, repeated, covered, visits, operand_at}
-use Rattle.count.proofs.Bounds.{neutral-product}
-use Rattle.count.proofs.Stands.{Stands, counts_stand, limit-stands, fixed_stands, at_least_stands, consec-stands, guarded_each-stands}
+use Rattle.count.proofs.Bounds.{neutral_product}
+use Rattle.count.proofs.Stands.{Stands, counts_stand, limit_stands, fixed_stands, at_least_stands, consec_stands, guarded_each_stands}
 use Rattle.count.proofs.NotVisited.{not_too_deep}
 
 -- An answer that counts.
 module _ (room d : ℕ) (s : Seq) {r : Walked} {c : Counts} (e : r ≡ walk room d s) (q : r ≡ Counted c) where
-  answer-counts : c ≡ counts (expand s)
-  answer-counts = the_walk_counts_the_expansion room d s c (sym e ∙ q)
+  answer_counts : c ≡ counts (expand s)
+  answer_counts = the_walk_counts_the_expansion room d s c (sym e ∙ q)
 
   -- Counts that are answered stand for the expansion.
-  pub answer-stands : Stands c (expand s)
-  answer-stands = counts_stand answer-counts
+  pub answer_stands : Stands c (expand s)
+  answer_stands = counts_stand answer_counts
 
   -- Counts that are answered are within their bounds.
   pub answer_is_small : room ≤ 65536 → Small c
   unfolding counts
   answer_is_small h =
       let b = a_walkable_tree_is_bounded room s (a_walked_tree_is_walkable room d s c (sym e ∙ q)) in
-      rw answer-counts (record { few = omega (arith, b.few); short = omega (arith, b.fits) })
+      rw answer_counts (record { few = omega (arith, b.few); short = omega (arith, b.fits) })
 
 -- A counted node of a formed table has an alternative.
 pub answer_has_some : (t : List ℕ) (k room d : ℕ) {r : Walked} {c : Counts} → FormedTable t → k < nodes t → r ≡ walk room d (tree_at t k) → r ≡ Counted c
@@ -71,7 +71,7 @@ some_repetition room d n m (suc x) s f = refl
 pub data Visiting (v : Node) : Type 0 where
   both : v.kind ≡ 2 → is_repeated v ≡ false → visits v ≡ 2 → operand_at v 0 ≡ v.p → operand_at v 1 ≡ v.q → Visiting v
   covered_one : v.kind ≡ 6 → (v.kind ≡ 2 → ⊥) → is_repeated v ≡ false → visits v ≡ 1 → operand_at v 0 ≡ v.q → Visiting v
-  repeated-one : Repetition v → is_repeated v ≡ true → visits v ≡ 1 → operand_at v 0 ≡ v.p → Visiting v
+  repeated_one : Repetition v → is_repeated v ≡ true → visits v ≡ 1 → operand_at v 0 ≡ v.p → Visiting v
   none : (v.kind ≡ 2 → ⊥) → (v.kind ≡ 6 → ⊥) → is_repeated v ≡ false → visits v ≡ 0 → Visiting v
 
 no_consecutive : (v : Node) → (v.kind ≡ 3 → ⊥) → is_repeated v ≡ false
@@ -90,16 +90,16 @@ visiting v = elim (ℕ_discrete v.kind 2) [
   where
     by_test : (b : Bool) → is_repeated v ≡ b → (v.kind ≡ 2 → ⊥) → (v.kind ≡ 6 → ⊥) → Visiting v
     by_test true r f g =
-        repeated-one (repetition v refl r) r (rw (ne_eqb v.kind 2 f, ne_eqb v.kind 6 g, r) refl) (rw (ne_eqb v.kind 6 g) refl)
+        repeated_one (repetition v refl r) r (rw (ne_eqb v.kind 2 f, ne_eqb v.kind 6 g, r) refl) (rw (ne_eqb v.kind 6 g) refl)
     by_test false r f g = none f g r (rw (ne_eqb v.kind 2 f, ne_eqb v.kind 6 g, r) refl)
 
 module _ {t : List ℕ} {n room d : ℕ} (S : Countable t n room d) where
   -- The node can be read.
-  pub node-inside : n * 5 + 5 ≤ length t
-  node-inside = omega (arith, S.formed.whole, S.inside)
+  pub node_inside : n * 5 + 5 ≤ length t
+  node_inside = omega (arith, S.formed.whole, S.inside)
 
-  pub node-few : n < 4096
-  node-few = omega (arith, S.formed.few, S.inside)
+  pub node_few : n < 4096
+  node_few = omega (arith, S.formed.few, S.inside)
 
 module _ {t : List ℕ} {n room d : ℕ} (S : Countable t n room d) (h : d ≤ 256) where
   abbrev v : Node
@@ -114,11 +114,11 @@ module _ {t : List ℕ} {n room d : ℕ} (S : Countable t n room d) (h : d ≤ 2
 
   -- What an operand's answer that counts says: its counts stand for its alternatives, there is one, and its words are expandable.
   module _ {k : ℕ} {c : Counts} (l : k < n) (e : below_it k ≡ Counted c) where
-    operand-stands : Stands c (expand (tree_at t k))
-    operand-stands = answer-stands room (d + 1) (tree_at t k) refl e
+    operand_stands : Stands c (expand (tree_at t k))
+    operand_stands = answer_stands room (d + 1) (tree_at t k) refl e
 
-    operand-some : 1 ≤ length (expand (tree_at t k))
-    operand-some = answer_has_some t k room (d + 1) S.formed (omega (arith, S.inside)) refl e
+    operand_some : 1 ≤ length (expand (tree_at t k))
+    operand_some = answer_has_some t k room (d + 1) S.formed (omega (arith, S.inside)) refl e
 
     pub operand_expandable : Expandable t k
     operand_expandable = record {
@@ -134,15 +134,15 @@ module _ {t : List ℕ} {n room d : ℕ} (S : Countable t n room d) (h : d ≤ 2
     operand_alone z =
         let b = a_walkable_tree_is_bounded room (tree_at t k) (a_walked_tree_is_walkable room (d + 1) (tree_at t k) c e) in
         let same = the_walk_counts_the_expansion room (d + 1) (tree_at t k) c e in
-        rw z (neutral-product c (rw same b.few) (rw same (omega (arith, b.fits, S.rooms))))
+        rw z (neutral_product c (rw same b.few) (rw same (omega (arith, b.fits, S.rooms))))
 
   -- ---- a delay
 
   module _ (k : (node_at t n).kind ≡ 2) where
     -- A delay is walked left, then right, then 10 and 11 are decided.
-    pub delay-walk : walk room d (tree_at t n) ≡ and_then (below_it v.p) (and_then (below_it v.q) (limited room n (expand (delay n (tree_at t v.p) (tree_at t v.q) v.min (max_of v.max)))))
+    pub delay_walk : walk room d (tree_at t n) ≡ and_then (below_it v.p) (and_then (below_it v.q) (limited room n (expand (delay n (tree_at t v.p) (tree_at t v.q) v.min (max_of v.max)))))
     unfolding walk_in walk
-    delay-walk = rw (is_delay S.formed S.inside refl k) (not_too_deep room d _ h)
+    delay_walk = rw (is_delay S.formed S.inside refl k) (not_too_deep room d _ h)
 
     pub delay_decided : {l r : Counts} → below_it v.p ≡ Counted l → below_it v.q ≡ Counted r
         → limit room n (delay_counts v (product l r)) ≡ limited room n (expand (delay n (tree_at t v.p) (tree_at t v.q) v.min (max_of v.max)))
@@ -154,26 +154,26 @@ module _ {t : List ℕ} {n room d : ℕ} (S : Countable t n room d) (h : d ≤ 2
         let rs = expand (tree_at t v.q) in
         let led = alternatives_are_led (tree_at t v.q) in
         elim (ℕ_discrete v.max unlimited) [
-          | yes at_least_lem ↦ rw (eq-eqb v.max unlimited at_least_lem) (limit-stands room n S.rooms (at_least_stands ls rs l r (operand-stands p e) (operand-stands p' e') (operand-some p e) (operand-some p' e') led v.min))
-          | no fixed ↦ rw (ne_eqb v.max unlimited fixed) (limit-stands room n S.rooms (fixed_stands ls rs l r (operand-stands p e) (operand-stands p' e') (operand-some p e) (operand-some p' e') led v.min v.max (words.delay_range k)))
+          | yes at_least_lem ↦ rw (eq-eqb v.max unlimited at_least_lem) (limit_stands room n S.rooms (at_least_stands ls rs l r (operand_stands p e) (operand_stands p' e') (operand_some p e) (operand_some p' e') led v.min))
+          | no fixed ↦ rw (ne_eqb v.max unlimited fixed) (limit_stands room n S.rooms (fixed_stands ls rs l r (operand_stands p e) (operand_stands p' e') (operand_some p e) (operand_some p' e') led v.min v.max (words.delay_range k)))
         ]
 
   -- ---- a throughout
 
   module _ (k : (node_at t n).kind ≡ 6) where
     -- Of a throughout the operand is walked, then 7, 10 and 11 are decided.
-    pub throughout-walk : walk room d (tree_at t n) ≡ and_then (below_it v.q) (pick (plain (expand (tree_at t v.q))) (limited room n (guard_each v.p (expand (tree_at t v.q)))) (Refused 7 n))
+    pub throughout_walk : walk room d (tree_at t n) ≡ and_then (below_it v.q) (pick (plain (expand (tree_at t v.q))) (limited room n (guard_each v.p (expand (tree_at t v.q)))) (Refused 7 n))
     unfolding walk_in walk
-    throughout-walk = rw (is_throughout S.formed S.inside refl k) (not_too_deep room d _ h)
+    throughout_walk = rw (is_throughout S.formed S.inside refl k) (not_too_deep room d _ h)
 
     pub throughout_decided : {s : Counts} → below_it v.q ≡ Counted s
         → covered room n s ≡ pick (plain (expand (tree_at t v.q))) (limited room n (guard_each v.p (expand (tree_at t v.q)))) (Refused 7 n)
     unfolding covered
     throughout_decided {s} e =
-        let under = operand-stands (words.throughout_under k) e in
-        let some = operand-some (words.throughout_under k) e in
+        let under = operand_stands (words.throughout_under k) e in
+        let some = operand_some (words.throughout_under k) e in
         ap (λ (b : Bool). pick b (limit room n (guarded_each s)) (Refused 7 n)) under.plainly
-        ∙ rw (limit-stands room n S.rooms (guarded_each-stands v.p (expand (tree_at t v.q)) s under some)) refl
+        ∙ rw (limit_stands room n S.rooms (guarded_each_stands v.p (expand (tree_at t v.q)) s under some)) refl
 
   -- ---- a finite [*] other than [*0]
 
@@ -187,7 +187,7 @@ module _ {t : List ℕ} {n room d : ℕ} (S : Countable t n room d) (h : d ≤ 2
         → repeated room n v s ≡ pick (ltb 256 v.max) (Refused 5 n) (limited room n (consec_finite (expand (tree_at t v.p)) v.min v.max))
     unfolding repeated consec_counts
     repetition_decided {s} e =
-        let under = operand-stands (words.consec_under R.kind) e in
-        let some = operand-some (words.consec_under R.kind) e in
+        let under = operand_stands (words.consec_under R.kind) e in
+        let some = operand_some (words.consec_under R.kind) e in
         let led = alternatives_are_led (tree_at t v.p) in
-        rw (limit-stands room n S.rooms (consec-stands (expand (tree_at t v.p)) s under some led v.min v.max (λ z. omega (arith, R.live)))) refl
+        rw (limit_stands room n S.rooms (consec_stands (expand (tree_at t v.p)) s under some led v.min v.max (λ z. omega (arith, R.live)))) refl

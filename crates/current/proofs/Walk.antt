@@ -22,10 +22,10 @@ use Rattle.current.specs.Text.{registers_at, registers_before, text_at, activati
 use Rattle.current.specs.Walk.{goes_on, base_text, suffixes_after, text_before, Piece, Ready, Tail}
 
 -- The registers of a later step, and of the first.
-pub later-registers : (W : List ℕ) (a : Kept) (k : ℕ) → 0 < k → registers_at W a k ≡ step_registers (step_of W a k)
+pub later_registers : (W : List ℕ) (a : Kept) (k : ℕ) → 0 < k → registers_at W a k ≡ step_registers (step_of W a k)
 unfolding registers_at
-later-registers W a zero h = absurd (omega (arith, h))
-later-registers W a (suc k) h = refl
+later_registers W a zero h = absurd (omega (arith, h))
+later_registers W a (suc k) h = refl
 
 pub lead_registers : (W : List ℕ) (a : Kept) (k : ℕ) → k ≡ 0 → registers_at W a k ≡ term_registers (step_of W a k).term
 unfolding registers_at
@@ -36,9 +36,9 @@ module _ (W : List ℕ) (a : Kept) (k : ℕ) {s : SeqStep} (w : s ≡ step_of W 
   pub registers_first : {own : ℕ} → own ≡ term_registers s.term → k ≡ 0 → own ≡ registers_at W a k
   registers_first e z = e ∙ ap (λ (x : SeqStep). term_registers x.term) w ∙ sym (lead_registers W a k z)
 
-  pub registers-later : {own q : ℕ} {h : SeqHop} → own ≡ term_registers s.term → (k ≡ 0 → ⊥) → h ≡ reach s → q ≡ hop_registers h → q + own ≡ registers_at W a k
+  pub registers_later : {own q : ℕ} {h : SeqHop} → own ≡ term_registers s.term → (k ≡ 0 → ⊥) → h ≡ reach s → q ≡ hop_registers h → q + own ≡ registers_at W a k
   unfolding step_registers
-  registers-later e z f g = ap₂ (λ (x y : ℕ). x + y) (g ∙ ap hop_registers f) e ∙ ap step_registers w ∙ sym (later-registers W a k (omega arith))
+  registers_later e z f g = ap₂ (λ (x y : ℕ). x + y) (g ∙ ap hop_registers f) e ∙ ap step_registers w ∙ sym (later_registers W a k (omega arith))
 
 base_lead : (W : List ℕ) (a : Kept) (k r : ℕ) → k ≡ 0 → base_text W a k r ≡ lead_text r (step_of W a k).term ++ guard_of W a
 unfolding base_text
@@ -83,7 +83,7 @@ module _ {W : List ℕ} {a : Kept} {k r : ℕ} {s : SeqStep} (P : Piece W a k r)
   piece_atom = rw w (P.whole.atoms k P.among)
 
   pub piece_later : 0 < k → StepFits r s
-  piece_later h = record { high = omega (arith, P.high, later-registers W a k h, ap step_registers w); atom = piece_atom }
+  piece_later h = record { high = omega (arith, P.high, later_registers W a k h, ap step_registers w); atom = piece_atom }
 
   pub piece_not_first : (k ≡ 0 → ⊥) → StepFits r s
   piece_not_first z = piece_later (omega arith)
@@ -145,9 +145,9 @@ module _ (G : List ℕ) (r : ℕ) (s : SeqStep) (E : List ℕ) where
           ≡ (hop_prefix r (reach s) ++ (E ++ hop_suffix (reach s))) ++ term_suffix (r + hop_registers (reach s)) s.term
       middle = rw (append_assoc, append_assoc E) refl
 
-  anew-text : BeginsAnew s → step_text G r s E ≡ step_base G r s
+  anew_text : BeginsAnew s → step_text G r s E ≡ step_base G r s
   unfolding step_text term_text hop_text step_base
-  anew-text B = pick_cong (term_keeps s.term) (λ t. rw (pick_false (hop_prefix r (reach s) ++ (E ++ hop_suffix (reach s))) (hop_base G r (reach s)) (B.anew t)) refl) (λ t. refl)
+  anew_text B = pick_cong (term_keeps s.term) (λ t. rw (pick_false (hop_prefix r (reach s) ++ (E ++ hop_suffix (reach s))) (hop_base G r (reach s)) (B.anew t)) refl) (λ t. refl)
 
 text_on : (W : List ℕ) (a : Kept) (k r : ℕ) → goes_on W a k ≡ true → text_at W a k r ≡ step_prefix r (step_of W a k) ++ (text_before W a k r ++ step_suffix r (step_of W a k))
 unfolding text_at
@@ -161,7 +161,7 @@ text_base : (W : List ℕ) (a : Kept) (k r : ℕ) → goes_on W a k ≡ false �
 unfolding text_at
 text_base W a zero r e = sym (base_lead W a zero r refl)
 text_base W a (suc k) r e =
-    anew-text (guard_of W a) r (step_of W a (suc k)) (text_at W a k (r - registers_at W a k)) (stops W a (suc k) e (omega arith)) ∙ sym (base_later W a (suc k) r (omega arith))
+    anew_text (guard_of W a) r (step_of W a (suc k)) (text_at W a k (r - registers_at W a k)) (stops W a (suc k) e (omega arith)) ∙ sym (base_later W a (suc k) r (omega arith))
 
 -- How many registers stand before a step, and before one behind it.
 pub registers_more : (W : List ℕ) (a : Kept) (k : ℕ) → registers_before W a (k + 1) ≡ registers_before W a k + registers_at W a k
@@ -346,7 +346,7 @@ later_activation W a (suc k) r h = let e : suc k - 1 ≡ k = omega arith in rw e
 module _ {W : List ℕ} {a : Kept} {k r : ℕ} {s : SeqStep} {y : SeqHop} (R : Ready W a k r) (h : 0 < k) (w : s ≡ step_of W a k) (v : y ≡ reach s) where
   pub reached_small : r + hop_registers y ≤ 65536
   unfolding step_registers
-  reached_small = rw (v, w) (omega (arith, R.high, later-registers W a k h))
+  reached_small = rw (v, w) (omega (arith, R.high, later_registers W a k h))
 
   activation_hop : activation_at W a k r ≡ hop_text (guard_of W a) r y (text_before W a k r)
   activation_hop = later_activation W a k r h ∙ rw (v, w) refl

@@ -4,8 +4,7 @@
 // Example: the steps Bool(0), Bool(1) after AtLeast(0) give the words r0 a0 any or a1 any and.
 #![tactic(auto)]
 
-ghost use Rattle.std.specs.Prelude.{◌≡◌, ◌+◌, ◌-◌, ◌≤◌, ◌<◌, length};
-ghost use Rattle.std.proofs.Math.Bool.{«false»};
+ghost use Rattle.std.specs.Prelude.{◌≡◌, false, ◌+◌, ◌-◌, ◌≤◌, ◌<◌, length};
 ghost use Rattle.words.specs.Written.{Wrote};
 ghost use Rattle.term.specs.Keeping.{step_of, Whole};
 ghost use Rattle.step_text.specs.Text.{step_prefix, step_suffix};

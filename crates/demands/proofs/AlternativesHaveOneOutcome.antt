@@ -45,7 +45,7 @@ use Rattle.sizes.specs.contracts.delays as sizes_delays
 use Rattle.sizes.specs.contracts.sizes as sizes
 use Rattle.alternative.specs.contracts.keep as keep
 use Rattle.alternative.specs.contracts.registers as alternative-registers
-use Rattle.alternative.specs.contracts.next_register as next-register
+use Rattle.alternative.specs.contracts.next_register as next_register
 use Rattle.alternative.specs.contracts.text as text
 use Rattle.alternative.specs.contracts.size as size
 use Rattle.demands.specs.OneOutcome.{OneOutcomeUpTo, OneOutcome}
@@ -163,7 +163,7 @@ module _ {M : Type 1} {𝓤 : Ura M} (𝓛 : Logic 𝓤) (mem : Memory → SProp
   pub alternative_registers_has_one_outcome : OneOutcome 𝓤 alternative-registers.ended (alternative-registers.clauses 𝓛 mem run)
   alternative_registers_has_one_outcome κs a g o o' = by_an_equation_and_a_bound 𝓤
 
-  pub alternative_next_register_has_one_outcome : OneOutcome 𝓤 next-register.ended (next-register.clauses 𝓛 mem run)
+  pub alternative_next_register_has_one_outcome : OneOutcome 𝓤 next_register.ended (next_register.clauses 𝓛 mem run)
   alternative_next_register_has_one_outcome κs a g o o' = by_an_equation 𝓤
 
   pub alternative_text_has_one_outcome : OneOutcome 𝓤 text.ended (text.clauses 𝓛 mem run)

@@ -17,7 +17,7 @@ use Rattle.meaning.specs.declared.Ticked.TheVariants.{Match, Refused}
 use Rattle.sva_c.specs.Boundary.{ticked_number, match_after, ticked_place}
 use Rattle.demands.specs.Shipped.{RunsAsShipped}
 use Rattle.demands.specs.ShippedForC.{RunsForC}
-use Rattle.demands.proofs.RunsGoOn.{answer-from, stored-from}
+use Rattle.demands.proofs.RunsGoOn.{answer_from, stored_from}
 use Rattle.demands.proofs.RunsForC.{a_run_is_one_for_C}
 
 -- A tick leaves next as long as it was.
@@ -39,14 +39,14 @@ module _ (tree work out : List ℕ) (registers words deepest : ℕ) (accepted : 
     -- The registers are zero at tick 0, and at each later one as the tick before left them.
     abbrev cur : ℕ → List ℕ
     cur zero = replicate registers 0 ++ tail zero
-    cur (suc n) = take registers (stored-from listing atoms next stack (cur n) n) ++ tail (suc n)
+    cur (suc n) = take registers (stored_from listing atoms next stack (cur n) n) ++ tail (suc n)
 
     -- What each tick answers, and leaves in next and in the stack.
     abbrev answer : ℕ → Ticked
-    answer n = answer-from listing atoms next stack (cur n) n
+    answer n = answer_from listing atoms next stack (cur n) n
 
     abbrev next' : ℕ → List ℕ
-    next' n = stored-from listing atoms next stack (cur n) n
+    next' n = stored_from listing atoms next stack (cur n) n
 
     abbrev stack' : ℕ → List ℕ
     stack' n = stack_left (answer n) (stack n)

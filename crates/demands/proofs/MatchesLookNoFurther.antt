@@ -45,11 +45,11 @@ module _ (σ τ : ℕ → ℕ → Bool) (end : ℕ) (agree : (k a : ℕ) → k <
   until_first : (a : ℕ) → IncludedUntil end (UntilFirst σ a) (UntilFirst τ a)
   until_first a i j b (k, p, e, no-a, h) = (k, p, e, never a i k (omega arith) no-a, holds k a (omega arith) h)
 
-  goto-runs : (a n : ℕ) → IncludedUntil end (GotoRuns σ a n) (GotoRuns τ a n)
-  goto-runs a n = times_included_until end (UntilFirst σ a) (UntilFirst τ a) (until_first_forward σ a) (until_first a) n
+  goto_runs : (a n : ℕ) → IncludedUntil end (GotoRuns σ a n) (GotoRuns τ a n)
+  goto_runs a n = times_included_until end (UntilFirst σ a) (UntilFirst τ a) (until_first_forward σ a) (until_first a) n
 
-  nonconsec-runs : (a n : ℕ) → IncludedUntil end (NonconsecRuns σ a n) (NonconsecRuns τ a n)
-  nonconsec-runs a n i j b (k, x, p, no-a) = (k, goto-runs a n i k (omega arith) x, p, never a k j b no-a)
+  nonconsec_runs : (a n : ℕ) → IncludedUntil end (NonconsecRuns σ a n) (NonconsecRuns τ a n)
+  nonconsec_runs a n i j b (k, x, p, no-a) = (k, goto_runs a n i k (omega arith) x, p, never a k j b no-a)
 
   -- Every tree matches the same up to that end.
   matches : (s : Seq) → IncludedUntil end (Match σ s) (Match τ s)
@@ -57,8 +57,8 @@ module _ (σ τ : ℕ → ℕ → Bool) (end : ℕ) (agree : (k a : ℕ) → k <
   matches (delay n l r m x) i j b (d, p, q, y) =
       (d, p, q, join_included_until end d (Match σ l) (Match τ l) (Match σ r) (Match τ r) (match_forward σ r) (matches l) (matches r) i j b y)
   matches (consec n s m x) i j b (c, p, q, y) = (c, p, q, times_included_until end (Match σ s) (Match τ s) (match_forward σ s) (matches s) c i j b y)
-  matches (goto n s k) i j b x = over_included_until end σ τ (operand s) (λ a. GotoRuns σ a k) (λ a. GotoRuns τ a k) (λ a. goto-runs a k) i j b x
-  matches (nonconsec n s k) i j b x = over_included_until end σ τ (operand s) (λ a. NonconsecRuns σ a k) (λ a. NonconsecRuns τ a k) (λ a. nonconsec-runs a k) i j b x
+  matches (goto n s k) i j b x = over_included_until end σ τ (operand s) (λ a. GotoRuns σ a k) (λ a. GotoRuns τ a k) (λ a. goto_runs a k) i j b x
+  matches (nonconsec n s k) i j b x = over_included_until end σ τ (operand s) (λ a. NonconsecRuns σ a k) (λ a. NonconsecRuns τ a k) (λ a. nonconsec_runs a k) i j b x
   matches (throughout n c s) i j b (x, h) = (matches s i j b x, always c i j b h)
   matches (within n s₁ s₂) i j b (i', j', x, p, q, y) = (i', j', matches s₂ i j b x, p, q, matches s₁ i' j' (omega arith) y)
 

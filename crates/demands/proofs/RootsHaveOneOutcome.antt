@@ -21,7 +21,7 @@ use Rattle.pair.specs.contracts.registers as pair_registers
 use Rattle.pair.specs.contracts.stores as stores
 use Rattle.pair.specs.contracts.text as text
 use Rattle.pair.specs.contracts.size as size
-use Rattle.within.specs.contracts.registers as within-registers
+use Rattle.within.specs.contracts.registers as within_registers
 use Rattle.within.specs.contracts.word_count as within_word_count
 use Rattle.within.specs.contracts.write as within_write
 use Rattle.lower.specs.contracts.lower_from as lower-from
@@ -80,7 +80,7 @@ module _ {M : Type 1} {𝓤 : Ura M} (𝓛 : Logic 𝓤) (mem : Memory → SProp
   pair_size_has_one_outcome κs a g o o' = by_an_equation_and_a_bound 𝓤
 
   -- All pairs. What `work` holds afterwards is left open: it is scratch, which `lower` clears.
-  pub within_registers_has_one_outcome : OneResult 𝓤 within-registers.ended (within-registers.clauses 𝓛 mem run)
+  pub within_registers_has_one_outcome : OneResult 𝓤 within_registers.ended (within_registers.clauses 𝓛 mem run)
   within_registers_has_one_outcome κs a g o o' = from_both 𝓤 same
 
   pub within_word_count_has_one_outcome : OneResult 𝓤 within_word_count.ended (within_word_count.clauses 𝓛 mem run)

@@ -14,17 +14,17 @@ use Rattle.meaning.specs.declared.Ticked.{Ticked}
 -- A listing, and what is lent at each tick.
 module _ (listing : List ℕ) (atoms next stack : ℕ → List ℕ) where
   -- What a tick answers, and what it leaves in next.
-  abbrev pub answer-from : List ℕ → ℕ → Ticked
-  answer-from cur n = tick listing cur (atoms n) (length (next n)) (length (stack n))
+  abbrev pub answer_from : List ℕ → ℕ → Ticked
+  answer_from cur n = tick listing cur (atoms n) (length (next n)) (length (stack n))
 
-  abbrev pub stored-from : List ℕ → ℕ → List ℕ
-  stored-from cur n = next_after (answer-from cur n) listing cur (atoms n) (next n)
+  abbrev pub stored_from : List ℕ → ℕ → List ℕ
+  stored_from cur n = next_after (answer_from cur n) listing cur (atoms n) (next n)
 
   -- Up to the last tick what a run had, and then what each tick left in next.
   module _ (cur : ℕ → List ℕ) (last : ℕ) where
     abbrev pub gone_on : ℕ → List ℕ
     gone_on zero = cur zero
-    gone_on (suc n) = pick (ltb n last) (cur (suc n)) (stored-from (gone_on n) n)
+    gone_on (suc n) = pick (ltb n last) (cur (suc n)) (stored_from (gone_on n) n)
 
     -- The run that goes on is the same run until the last tick.
     pub the_same_until_last : (n : ℕ) → n ≤ last → gone_on n ≡ cur n
@@ -32,8 +32,8 @@ module _ (listing : List ℕ) (atoms next stack : ℕ → List ℕ) where
     the_same_until_last (suc n) l = pick_true _ _ (lt-ltb n last l)
 
     -- Where the registers were what each tick had left, they are so for good.
-    pub goes_on_for_good : (registers : ℕ) → ((n : ℕ) → n < last → take registers (cur (suc n)) ≡ take registers (stored-from (cur n) n))
-        → (n : ℕ) → take registers (gone_on (suc n)) ≡ take registers (stored-from (gone_on n) n)
+    pub goes_on_for_good : (registers : ℕ) → ((n : ℕ) → n < last → take registers (cur (suc n)) ≡ take registers (stored_from (cur n) n))
+        → (n : ℕ) → take registers (gone_on (suc n)) ≡ take registers (stored_from (gone_on n) n)
     goes_on_for_good registers went_on n =
-        pick_case (λ (then : List ℕ). take registers then ≡ take registers (stored-from (gone_on n) n)) (ltb n last)
+        pick_case (λ (then : List ℕ). take registers then ≡ take registers (stored_from (gone_on n) n)) (ltb n last)
         (λ e. let l = ltb-true n last e in rw (the_same_until_last n (omega arith)) (went_on n l)) (λ _. refl)

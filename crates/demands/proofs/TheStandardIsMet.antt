@@ -26,11 +26,11 @@ use Rattle.meaning.proofs.Evaluation.{bit}
 use Rattle.meaning.proofs.ListingAnswer.{a_listed_table_passed_all}
 use Rattle.meaning.proofs.Demand3 as definitions
 use Rattle.lower.specs.Answers.{Lowers}
-use Rattle.words.proofs.Laws.{front-written}
+use Rattle.words.proofs.Laws.{front_written}
 use Rattle.matches.specs.Answers.{AMatchEnds}
 use Rattle.demands.specs.Shipped.{RunsAsShipped, IsABit, MeetsTheStandard}
 use Rattle.demands.proofs.MatchesLookNoFurther.{matches_look_no_further}
-use Rattle.demands.proofs.RunsGoOn.{answer-from, stored-from, gone_on, the_same_until_last, goes_on_for_good}
+use Rattle.demands.proofs.RunsGoOn.{answer_from, stored_from, gone_on, the_same_until_last, goes_on_for_good}
 
 -- One call of `lower` that answered with a listing.
 module _ {tree work work' out out' : List ℕ} {registers words deepest : ℕ}
@@ -43,7 +43,7 @@ module _ {tree work work' out out' : List ℕ} {registers words deepest : ℕ}
   unfolding output_after words_of
   the_words_handed_out_are_the_trees =
       let fitting = (a_listed_table_passed_all tree (length work) (length out) 0 registers words deepest accepted).fitting in
-      front-written {o = out} {n = words} (record { holds = lowered.holds; ends = omega (arith, fitting.words_are) }) fitting.long-enough
+      front_written {o = out} {n = words} (record { holds = lowered.holds; ends = omega (arith, fitting.words_are) }) fitting.long_enough
 
   -- They pass the check that tick begins with.
   pub the_words_handed_out_pass_the_check : check (take words out') ≡ Described
@@ -113,11 +113,11 @@ module _ {ticks : ℕ} {tree work work' out out' : List ℕ} {registers words de
     lent_alike n l = omega arith
 
     -- Up to that tick it answers the same from the same registers.
-    answers_alike : (n : ℕ) → n ≤ last → answer n ≡ answer-from listing atoms_on next_on stack_on (cur n) n
+    answers_alike : (n : ℕ) → n ≤ last → answer n ≡ answer_from listing atoms_on next_on stack_on (cur n) n
     answers_alike n l = (run.ticked n (omega arith)).answer ∙ rw (words_are, lent_alike n l) refl
 
     -- Up to that tick it stores the same, from which the next one goes on.
-    registers_alike : (n : ℕ) → n < last → take registers (cur (suc n)) ≡ take registers (stored-from listing atoms_on next_on stack_on (cur n) n)
+    registers_alike : (n : ℕ) → n < last → take registers (cur (suc n)) ≡ take registers (stored_from listing atoms_on next_on stack_on (cur n) n)
     registers_alike n l =
         rw (run.lent.goes_on n (omega arith))
         (ap (take registers)
@@ -135,7 +135,7 @@ module _ {ticks : ℕ} {tree work work' out out' : List ℕ} {registers words de
     }
 
     -- At that tick the run that goes on gives the run's answer.
-    answered : answer last ≡ answer-from listing atoms_on next_on stack_on (cur_on last) last
+    answered : answer last ≡ answer_from listing atoms_on next_on stack_on (cur_on last) last
     answered = answers_alike last (omega arith) ∙ rw (the_same_until_last listing atoms_on next_on stack_on cur last last (omega arith)) refl
 
     -- Up to that tick the same atoms hold.

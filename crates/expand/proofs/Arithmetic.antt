@@ -105,9 +105,9 @@ unfolding block_of
 finding_last {a} {k} {more} {i} {p} {j} {at} g h = let e : more - at ≡ 0 = omega arith in sym (g.rest ∙ rw e refl)
 
 -- A number of Empties is 0 or 1.
-pub empties-few : (min : ℕ) → empties min ≤ 1
+pub empties_few : (min : ℕ) → empties min ≤ 1
 unfolding empties
-empties-few min = pick_case (λ (k : ℕ). k ≤ 1) (eqb min 0) (λ e. omega arith) (λ e. omega arith)
+empties_few min = pick_case (λ (k : ℕ). k ≤ 1) (eqb min 0) (λ e. omega arith) (λ e. omega arith)
 
 -- `place` has one less than the minimum under the name k.
 pub first_copies_few : (a min : ℕ) {k : ℕ} → k ≡ min - 1 → copies_count a (min - 1) ≤ 256 → copies_count a k ≤ 256
@@ -120,9 +120,9 @@ placed a min max i p q r = rw (← p, ← q) r
 
 -- `made_of_copies`, which has the Empties under the name e.
 module _ (v : Node) (i : ℕ) {b : Bool} (r : b ≡ is_repeated v) where
-  pub copies-past_empty : {e : ℕ} → b ≡ true → e ≡ empties v.min → leb e i ≡ is_copies v i
+  pub copies_past_empty : {e : ℕ} → b ≡ true → e ≡ empties v.min → leb e i ≡ is_copies v i
   unfolding is_copies
-  copies-past_empty y q = sym (pick_true _ _ (sym r ∙ y) ∙ rw q refl)
+  copies_past_empty y q = sym (pick_true _ _ (sym r ∙ y) ∙ rw q refl)
 
   pub no_copies : b ≡ false → false ≡ is_copies v i
   unfolding is_copies

@@ -20,13 +20,13 @@ use Rattle.outline.specs.Outline.{is_repeated, Expandable}
 use Rattle.outline.proofs.Laws.{Repetition, no_repetition}
 use Rattle.outline.proofs.ByWords.{well_formed, is_atom, is_delay, is_consec, is_finite, is_unbounded, is_goto, is_nonconsec, is_throughout, is_within}
 use Rattle.outline.proofs.Readers.{few_alternatives as few_expanded}
-use Rattle.expand.proofs.Index.{nth-unbounded, nth_finite_empty}
+use Rattle.expand.proofs.Index.{nth_unbounded, nth_finite_empty}
 use Rattle.expand.specs.ByNumber.{alternatives_of, nth, empties, is_copies, single_term, OperandInside}
 
 -- The operand of a goto, a nonconsecutive or a [*m:$] is an atom, and its first word is which.
-boolean-operand : (t : List ℕ) (m : ℕ) → FormedTable t → m < nodes t → IsBoolean (operand (tree_at t m))
+boolean_operand : (t : List ℕ) (m : ℕ) → FormedTable t → m < nodes t → IsBoolean (operand (tree_at t m))
     → operand (tree_at t m) ≡ boolean (node_at t m).p
-boolean-operand t m T i B =
+boolean_operand t m T i B =
     by_kind (node_at t m).kind (T.each m i).known
     (λ e. ap operand (is_atom T i refl e))
     (λ e. absurd (rw (is_delay T i refl e) at B))
@@ -37,10 +37,10 @@ boolean-operand t m T i B =
     (λ e. absurd (rw (is_within T i refl e) at B))
 
 -- 5 of a finite [*] that has copies, and what is known of its operand.
-walkable-copies : (room n : ℕ) (s : Seq) (m x : ℕ) → 0 < x → Walkable room (consec n s m (finite x)) → Walkable room s × (x ≤ 256)
+walkable_copies : (room n : ℕ) (s : Seq) (m x : ℕ) → 0 < x → Walkable room (consec n s m (finite x)) → Walkable room s × (x ≤ 256)
 unfolding Walkable
-walkable-copies room n s m zero h W = absurd (omega arith)
-walkable-copies room n s m (suc x) h W = (W.0, W.1)
+walkable_copies room n s m zero h W = absurd (omega arith)
+walkable_copies room n s m (suc x) h W = (W.0, W.1)
 
 module _ {t : List ℕ} {n : ℕ} (E : Expandable t n) where
   -- A node has from 1 to 256 alternatives.
@@ -62,15 +62,15 @@ module _ {t : List ℕ} {n : ℕ} (E : Expandable t n) where
 
     -- ---- delay
 
-    delay-walkable : v.kind ≡ 2 → Walkable E.room (tree_at t v.p) × Walkable E.room (tree_at t v.q)
+    delay_walkable : v.kind ≡ 2 → Walkable E.room (tree_at t v.p) × Walkable E.room (tree_at t v.q)
     unfolding Walkable
-    delay-walkable k = let W = rw (is_delay E.formed E.inside w k) at E.walkable in (W.0, W.1)
+    delay_walkable k = let W = rw (is_delay E.formed E.inside w k) at E.walkable in (W.0, W.1)
 
     pub left_expandable : v.kind ≡ 2 → Expandable t v.p
-    left_expandable k = lower v.p (words.delay_left k) (delay-walkable k).0
+    left_expandable k = lower v.p (words.delay_left k) (delay_walkable k).0
 
     pub right_expandable : v.kind ≡ 2 → Expandable t v.q
-    right_expandable k = lower v.q (words.delay_right k) (delay-walkable k).1
+    right_expandable k = lower v.q (words.delay_right k) (delay_walkable k).1
 
     pub delay_alternatives : v.kind ≡ 2
         → alternatives_of t n ≡ join_hops (hops v.min (max_of v.max)) (alternatives_of t v.p) (alternatives_of t v.q)
@@ -96,18 +96,18 @@ module _ {t : List ℕ} {n : ℕ} (E : Expandable t n) where
 
     module _ (R : Repetition v) where
       -- What 5 and the walk say of a [*] that has copies, and its alternatives.
-      copies-walkable : Walkable E.room (tree_at t v.p) × (v.max ≤ 256)
-      copies-walkable =
-          walkable-copies E.room n (tree_at t v.p) v.min v.max R.live (rw (is_finite E.formed E.inside w R.kind R.limited) at E.walkable)
+      copies_walkable : Walkable E.room (tree_at t v.p) × (v.max ≤ 256)
+      copies_walkable =
+          walkable_copies E.room n (tree_at t v.p) v.min v.max R.live (rw (is_finite E.formed E.inside w R.kind R.limited) at E.walkable)
 
       pub copied_expandable : Expandable t v.p
-      copied_expandable = lower v.p (words.consec_under R.kind) copies-walkable.0
+      copied_expandable = lower v.p (words.consec_under R.kind) copies_walkable.0
 
       pub few_copies : v.max ≤ 256
-      few_copies = copies-walkable.1
+      few_copies = copies_walkable.1
 
-      pub copies-in_order : v.min ≤ v.max
-      copies-in_order = words.consec_range R.kind
+      pub copies_in_order : v.min ≤ v.max
+      copies_in_order = words.consec_range R.kind
 
       pub repeated_alternatives : alternatives_of t n ≡ consec_finite (alternatives_of t v.p) v.min v.max
       repeated_alternatives = finite_alternatives R.kind R.limited
@@ -115,35 +115,35 @@ module _ {t : List ℕ} {n : ℕ} (E : Expandable t n) where
     -- ---- the kinds over a Boolean
 
     -- What a term over the operand's Boolean gives.
-    over-operand : (g : ℕ → List SeqAlt) → v.p < n → IsBoolean (operand (tree_at t v.p))
+    over_operand : (g : ℕ → List SeqAlt) → v.p < n → IsBoolean (operand (tree_at t v.p))
         → over (operand (tree_at t v.p)) g ≡ g (node_at t v.p).p
-    over-operand g l B = ap (λ (x : Operand). over x g) (boolean-operand t v.p E.formed (omega (arith, E.inside)) B)
+    over_operand g l B = ap (λ (x : Operand). over x g) (boolean_operand t v.p E.formed (omega (arith, E.inside)) B)
 
     pub unbounded_alternatives : v.kind ≡ 3 → v.max ≡ unlimited → alternatives_of t n ≡ consec_unbounded v.min (node_at t v.p).p
     unfolding alternatives_of Walkable
     unbounded_alternatives k u =
         ap expand (is_unbounded E.formed E.inside w k u)
-        ∙ over-operand (consec_unbounded v.min) (words.consec_under k) (let W = rw (is_unbounded E.formed E.inside w k u) at E.walkable in W.1)
+        ∙ over_operand (consec_unbounded v.min) (words.consec_under k) (let W = rw (is_unbounded E.formed E.inside w k u) at E.walkable in W.1)
 
     pub goto_alternatives : v.kind ≡ 4 → alternatives_of t n ≡ single (Goto (node_at t v.p).p v.min) ∷ []
     unfolding alternatives_of Walkable
     goto_alternatives k =
         ap expand (is_goto E.formed E.inside w k)
-        ∙ over-operand (λ b. single (Goto b v.min) ∷ []) (words.goto_under k) (let W = rw (is_goto E.formed E.inside w k) at E.walkable in W.1)
+        ∙ over_operand (λ b. single (Goto b v.min) ∷ []) (words.goto_under k) (let W = rw (is_goto E.formed E.inside w k) at E.walkable in W.1)
 
     pub nonconsec_alternatives : v.kind ≡ 5 → alternatives_of t n ≡ single (Nonconsec (node_at t v.p).p v.min) ∷ []
     unfolding alternatives_of Walkable
     nonconsec_alternatives k =
         ap expand (is_nonconsec E.formed E.inside w k)
-        ∙ over-operand (λ b. single (Nonconsec b v.min) ∷ []) (words.nonconsec_under k) (let W = rw (is_nonconsec E.formed E.inside w k) at E.walkable in W.1)
+        ∙ over_operand (λ b. single (Nonconsec b v.min) ∷ []) (words.nonconsec_under k) (let W = rw (is_nonconsec E.formed E.inside w k) at E.walkable in W.1)
 
     pub atom_alternatives : v.kind ≡ 1 → alternatives_of t n ≡ single (BoolTerm v.p) ∷ []
     unfolding alternatives_of
     atom_alternatives k = ap expand (is_atom E.formed E.inside w k)
 
-    pub atom-alternative : v.kind ≡ 1 → (i : ℕ) → i < length (alternatives_of t n) → nth (alternatives_of t n) i ≡ single (BoolTerm v.p)
+    pub atom_alternative : v.kind ≡ 1 → (i : ℕ) → i < length (alternatives_of t n) → nth (alternatives_of t n) i ≡ single (BoolTerm v.p)
     unfolding nth
-    atom-alternative k i h =
+    atom_alternative k i h =
         let e = atom_alternatives k in
         let z : i ≡ 0 = omega (arith, rw e at h) in
         rw (e, z) refl
@@ -175,16 +175,16 @@ module _ {t : List ℕ} {n : ℕ} (E : Expandable t n) where
               rw m (rw (finite_alternatives k l, z) at h)
 
       -- Alternative i, where it is not made of copies, is the one term that its node and number say.
-      pub single-alternative : {b : Bool} (i : ℕ) → i < length (alternatives_of t n) → b ≡ is_copies v i → b ≡ false
+      pub single_alternative : {b : Bool} (i : ℕ) → i < length (alternatives_of t n) → b ≡ is_copies v i → b ≡ false
           → nth (alternatives_of t n) i ≡ single (single_term t v i)
       unfolding single_term pick nth
-      single-alternative {b} i h c x =
+      single_alternative {b} i h c x =
           by_single_kind
           (λ k. rw (k, atom_alternatives k, only (atom_alternatives k)) refl)
           (λ k. elim (ℕ_discrete v.max unlimited) [
             | yes u ↦ (
                 let e = unbounded_alternatives k u in
-                rw (k, e) (nth-unbounded v.min (node_at t v.p).p i (rw e at h)))
+                rw (k, e) (nth_unbounded v.min (node_at t v.p).p i (rw e at h)))
             | no l ↦ (
                 let e = before_copies i h c x k l in
                 rw (k, lt-ltb _ _ e, finite_alternatives k l)
@@ -197,8 +197,8 @@ module _ {t : List ℕ} {n : ℕ} (E : Expandable t n) where
           only e = omega (arith, rw e at h)
 
       -- The operand of what is one term can be read, if there is one.
-      pub operand-inside : OperandInside t v
-      operand-inside = record {
+      pub operand_inside : OperandInside t v
+      operand_inside = record {
         inside = λ x. omega (arith, under x, E.inside, E.formed.whole);
         few = λ x. omega (arith, under x, E.inside, E.formed.few);
       }

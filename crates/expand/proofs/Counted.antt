@@ -8,12 +8,12 @@ use lib.ListN.{length, length-append}
 use Rattle.meaning.specs.declared.Node.{Node}
 use Rattle.meaning.specs.Tree.{node_at, max_of}
 use Rattle.meaning.specs.Alternative.{hops, copies, copies_from}
-use Rattle.meaning.proofs.Counting.{Tally, throughout-tallied}
+use Rattle.meaning.proofs.Counting.{Tally, throughout_tallied}
 use Rattle.outline.specs.Outline.{Expandable}
 use Rattle.outline.proofs.Laws.{Repetition}
 use Rattle.expand.specs.ByNumber.{alternatives_of, copies_count, empties}
 use Rattle.expand.proofs.Index.{length-join_hops, length-copies, finite_blocks, length-with_empty}
-use Rattle.expand.proofs.ByKind.{some_alternatives, few_alternatives, delay_alternatives, throughout_alternatives, copied_expandable, copies-in_order, repeated_alternatives}
+use Rattle.expand.proofs.ByKind.{some_alternatives, few_alternatives, delay_alternatives, throughout_alternatives, copied_expandable, copies_in_order, repeated_alternatives}
 
 module _ {t : List ℕ} {n : ℕ} {v : Node} (E : Expandable t n) (w : v ≡ node_at t n) where
   -- Hops times left times right.
@@ -26,7 +26,7 @@ module _ {t : List ℕ} {n : ℕ} {v : Node} (E : Expandable t n) (w : v ≡ nod
   -- A guard changes no number.
   pub throughout_count : v.kind ≡ 6 → length (alternatives_of t n) ≡ length (alternatives_of t v.q)
   throughout_count k =
-      ap length (throughout_alternatives E w k) ∙ ap (λ (x : Tally). x.alternatives) (throughout-tallied v.p (alternatives_of t v.q))
+      ap length (throughout_alternatives E w k) ∙ ap (λ (x : Tally). x.alternatives) (throughout_tallied v.p (alternatives_of t v.q))
 
   -- A finite [*] that has copies.
   module _ (R : Repetition v) where
@@ -40,14 +40,14 @@ module _ {t : List ℕ} {n : ℕ} {v : Node} (E : Expandable t n) (w : v ≡ nod
       pub copied_some : 0 < a
       copied_some = rw p (some_alternatives (copied_expandable E w R))
 
-      pub copied-few : a ≤ 256
-      copied-few = rw p (few_alternatives (copied_expandable E w R))
+      pub copied_few : a ≤ 256
+      copied_few = rw p (few_alternatives (copied_expandable E w R))
 
       pub first_few : copies_count a (v.min - 1) ≤ 256
       first_few =
           let base = alternatives_of t v.p in
           let k = v.min - 1 in
           let more = v.max - k - 1 in
-          let blocks : v.max - k ≡ suc more = omega (arith, copies-in_order E w R, R.live) in
+          let blocks : v.max - k ≡ suc more = omega (arith, copies_in_order E w R, R.live) in
           let all = ap (λ (z : ℕ). length (copies_from base k z)) blocks ∙ length-append (copies base k) (copies_from base (suc k) more) in
           rw (p, ← length-copies base k) (omega (arith, few_alternatives E, repeated_count, all))

@@ -18,11 +18,11 @@ use Rattle.meaning.specs.declared.SeqHop.{SeqHop}
 use Rattle.meaning.specs.declared.SeqHop.TheVariants.{Fixed}
 use Rattle.meaning.specs.Expression.{a·, any}
 use Rattle.meaning.specs.Alternative.{guard, and_opt, SeqAlt, alternative, single, joined, join_rights, join_lefts, join_hops, fixed_from, copies, copies_from, with_empty, consec_finite, consec_unbounded, guard_each}
-use Rattle.meaning.proofs.Counting.{Tally, tally, tally_copies, tally_lefts, tally_hops, copies-tallied}
+use Rattle.meaning.proofs.Counting.{Tally, tally, tally_copies, tally_lefts, tally_hops, copies_tallied}
 use Rattle.meaning.proofs.Members.{below_is_one_less}
 use Rattle.expand.specs.ByNumber.{nth, copies_count, block_of, empties}
 use Rattle.expand.specs.declared.Block.{Block}
-use Rattle.expand.proofs.Arithmetic.{empties-few}
+use Rattle.expand.proofs.Arithmetic.{empties_few}
 
 abbrev alternatives_in : Tally → ℕ
 alternatives_in x = x.alternatives
@@ -45,7 +45,7 @@ count_copies x zero = refl
 count_copies x (suc k) = ap (λ (z : ℕ). z * x.alternatives) (count_copies x k)
 
 pub length-copies : (base : List SeqAlt) (k : ℕ) → length (copies base k) ≡ copies_count (length base) k
-length-copies base k = ap alternatives_in (copies-tallied base k) ∙ count_copies (tally base) k
+length-copies base k = ap alternatives_in (copies_tallied base k) ∙ count_copies (tally base) k
 
 -- ---- by number, positions as sums of products
 
@@ -55,9 +55,9 @@ unfolding nth
 rest_of alts i h = rw (add-one i) (drop-cons alts i (single Empty) h)
 
 -- In front of the seam of two lists, and behind it.
-nth-front : (xs ys : List SeqAlt) (i : ℕ) → i < length xs → nth (xs ++ ys) i ≡ nth xs i
+nth_front : (xs ys : List SeqAlt) (i : ℕ) → i < length xs → nth (xs ++ ys) i ≡ nth xs i
 unfolding nth
-nth-front xs ys i h = get_or-append xs ys (single Empty) i h
+nth_front xs ys i h = get_or-append xs ys (single Empty) i h
 
 nth_back : (xs ys : List SeqAlt) (i : ℕ) → nth (xs ++ ys) (length xs + i) ≡ nth ys i
 unfolding nth
@@ -67,9 +67,9 @@ nth_first : (x : SeqAlt) (xs : List SeqAlt) → x ≡ nth (x ∷ xs) 0
 unfolding nth
 nth_first x xs = refl
 
-pub nth-next : (x : SeqAlt) (xs : List SeqAlt) (i : ℕ) → nth xs i ≡ nth (x ∷ xs) (suc i)
+pub nth_next : (x : SeqAlt) (xs : List SeqAlt) (i : ℕ) → nth xs i ≡ nth (x ∷ xs) (suc i)
 unfolding nth
-nth-next x xs i = refl
+nth_next x xs i = refl
 
 nth_rights : (h : SeqHop) (l : SeqAlt) (rs : List SeqAlt) (r : ℕ) → r < length rs
     → nth (join_rights h l rs) r ≡ joined h l (nth rs r)
@@ -84,39 +84,39 @@ pub nth_lefts : (h : SeqHop) (ls rs : List SeqAlt) (l r : ℕ) → l < length ls
 nth_lefts h [] rs l r p q = absurd (omega arith)
 nth_lefts h (x ∷ ls) rs zero r p q =
     let e : 0 * length rs + r ≡ r = omega arith in
-    rw e (nth-front (join_rights h x rs) (join_lefts h ls rs) r (omega (arith, length_rights h x rs)) ∙ nth_rights h x rs r q
+    rw e (nth_front (join_rights h x rs) (join_lefts h ls rs) r (omega (arith, length_rights h x rs)) ∙ nth_rights h x rs r q
     ∙ ap (λ (z : SeqAlt). joined h z (nth rs r)) (nth_first x ls))
 nth_lefts h (x ∷ ls) rs (suc l) r p q =
     let e : suc l * length rs + r ≡ length (join_rights h x rs) + (l * length rs + r) = omega (arith, length_rights h x rs) in
     rw e (nth_back (join_rights h x rs) (join_lefts h ls rs) (l * length rs + r) ∙ nth_lefts h ls rs l r (omega arith) q
-    ∙ ap (λ (z : SeqAlt). joined h z (nth rs r)) (nth-next x ls l))
+    ∙ ap (λ (z : SeqAlt). joined h z (nth rs r)) (nth_next x ls l))
 
 -- The alternatives of joined lists are numbered with the hops slowest.
-pub nth-hops : (hs : List SeqHop) (ls rs : List SeqAlt) (k l r : ℕ) → k < length hs → l < length ls → r < length rs
+pub nth_hops : (hs : List SeqHop) (ls rs : List SeqAlt) (k l r : ℕ) → k < length hs → l < length ls → r < length rs
     → nth (join_hops hs ls rs) (k * (length ls * length rs) + (l * length rs + r)) ≡ joined (get_or hs k (Fixed 0)) (nth ls l) (nth rs r)
-nth-hops [] ls rs k l r o p q = absurd (omega arith)
-nth-hops (h ∷ hs) ls rs zero l r o p q =
+nth_hops [] ls rs k l r o p q = absurd (omega arith)
+nth_hops (h ∷ hs) ls rs zero l r o p q =
     let e : 0 * (length ls * length rs) + (l * length rs + r) ≡ l * length rs + r = omega arith in
     let b : suc l * length rs ≤ length ls * length rs = mul-le-mul (omega arith) (le_refl (length rs)) in
-    rw e (nth-front (join_lefts h ls rs) (join_hops hs ls rs) (l * length rs + r) (omega (arith, length_lefts h ls rs)) ∙ nth_lefts h ls rs l r p q)
-nth-hops (h ∷ hs) ls rs (suc k) l r o p q =
+    rw e (nth_front (join_lefts h ls rs) (join_hops hs ls rs) (l * length rs + r) (omega (arith, length_lefts h ls rs)) ∙ nth_lefts h ls rs l r p q)
+nth_hops (h ∷ hs) ls rs (suc k) l r o p q =
     let i : ℕ = k * (length ls * length rs) + (l * length rs + r) in
     let e : suc k * (length ls * length rs) + (l * length rs + r) ≡ length (join_lefts h ls rs) + i = omega (arith, length_lefts h ls rs) in
-    rw e (nth_back (join_lefts h ls rs) (join_hops hs ls rs) i ∙ nth-hops hs ls rs k l r (omega arith) p q)
+    rw e (nth_back (join_lefts h ls rs) (join_hops hs ls rs) i ∙ nth_hops hs ls rs k l r (omega arith) p q)
 
 -- The hops of a range go up by 1.
-pub nth-fixed_from : (m count k : ℕ) → k < count → get_or (fixed_from m count) k (Fixed 0) ≡ Fixed (m + k)
-nth-fixed_from m zero k h = absurd (omega arith)
-nth-fixed_from m (suc count) zero h = ap Fixed (sym (add-zero m))
-nth-fixed_from m (suc count) (suc k) h = nth-fixed_from (suc m) count k (omega arith) ∙ ap Fixed (omega arith)
+pub nth_fixed_from : (m count k : ℕ) → k < count → get_or (fixed_from m count) k (Fixed 0) ≡ Fixed (m + k)
+nth_fixed_from m zero k h = absurd (omega arith)
+nth_fixed_from m (suc count) zero h = ap Fixed (sym (add-zero m))
+nth_fixed_from m (suc count) (suc k) h = nth_fixed_from (suc m) count k (omega arith) ∙ ap Fixed (omega arith)
 
 -- A guard changes no number.
-pub nth-guarded : (c : ℕ) (ys : List SeqAlt) (i : ℕ) → i < length ys
+pub nth_guarded : (c : ℕ) (ys : List SeqAlt) (i : ℕ) → i < length ys
     → nth (guard_each c ys) i ≡ alternative (nth ys i).steps (and_opt (nth ys i).guard (guard (any (a· c))))
 unfolding nth
-nth-guarded c [] i h = absurd (omega arith)
-nth-guarded c (y ∷ ys) zero h = refl
-nth-guarded c (y ∷ ys) (suc i) h = nth-guarded c ys i (omega arith)
+nth_guarded c [] i h = absurd (omega arith)
+nth_guarded c (y ∷ ys) zero h = refl
+nth_guarded c (y ∷ ys) (suc i) h = nth_guarded c ys i (omega arith)
 
 -- ---- by division
 
@@ -132,32 +132,32 @@ pub record Digits (i hops a b : ℕ) : Type 0 where
   pub left : i / b % a < a
   pub right : i % b < b
 
-pub digits-below : (i hops a b : ℕ) → 0 < a → 0 < b → i < hops * (a * b) → Digits i hops a b
-digits-below i hops a b p q h = record {
+pub digits_below : (i hops a b : ℕ) → 0 < a → 0 < b → i < hops * (a * b) → Digits i hops a b
+digits_below i hops a b p q h = record {
   hop = (div-lt_iff_lt-mul {k = a} {x = i / b} {y = hops} p).1 ((div-lt_iff_lt-mul {k = b} {x = i} {y = hops * a} q).1 (omega arith));
   left = mod-lt (i / b) p;
   right = mod-lt i q;
 }
 
 -- Alternative i of a delay: "The hop varies slowest, then the left's alternative, then the right's".
-pub nth-delay : (hs : List SeqHop) (ls rs : List SeqAlt) (i : ℕ) → 0 < length ls → 0 < length rs → i < length (join_hops hs ls rs)
+pub nth_delay : (hs : List SeqHop) (ls rs : List SeqAlt) (i : ℕ) → 0 < length ls → 0 < length rs → i < length (join_hops hs ls rs)
     → nth (join_hops hs ls rs) i ≡ joined (get_or hs (i / length rs / length ls) (Fixed 0)) (nth ls (i / length rs % length ls)) (nth rs (i % length rs))
-nth-delay hs ls rs i p q h =
-    let d = digits-below i (length hs) (length ls) (length rs) p q (omega (arith, length-join_hops hs ls rs)) in
-    ap (nth (join_hops hs ls rs)) (digits i (length ls) (length rs)) ∙ nth-hops hs ls rs _ _ _ d.hop d.left d.right
+nth_delay hs ls rs i p q h =
+    let d = digits_below i (length hs) (length ls) (length rs) p q (omega (arith, length-join_hops hs ls rs)) in
+    ap (nth (join_hops hs ls rs)) (digits i (length ls) (length rs)) ∙ nth_hops hs ls rs _ _ _ d.hop d.left d.right
 
 -- Number i of k + 2 copies leaves number i / length base of k + 1 copies.
-pub copies-index : (base : List SeqAlt) (k i : ℕ) → 0 < length base → i < length (copies base (suc k))
+pub copies_index : (base : List SeqAlt) (k i : ℕ) → 0 < length base → i < length (copies base (suc k))
     → i / length base < length (copies base k)
-copies-index base k i p h =
+copies_index base k i p h =
     (div-lt_iff_lt-mul {k = length base} {x = i} {y = length (copies base k)} p).1 (omega (arith, length_lefts (Fixed 1) (copies base k) base))
 
 -- Alternative i of k + 2 copies: "the earlier a copy, the slower it varies".
-pub nth-copies : (base : List SeqAlt) (k i : ℕ) → 0 < length base → i < length (copies base (suc k))
+pub nth_copies : (base : List SeqAlt) (k i : ℕ) → 0 < length base → i < length (copies base (suc k))
     → nth (copies base (suc k)) i ≡ joined (Fixed 1) (nth (copies base k) (i / length base)) (nth base (i % length base))
-nth-copies base k i p h =
+nth_copies base k i p h =
     ap (nth (copies base (suc k))) (sym (div-add-mod' i (length base)))
-    ∙ nth_lefts (Fixed 1) (copies base k) base (i / length base) (i % length base) (copies-index base k i p h) (mod-lt i p)
+    ∙ nth_lefts (Fixed 1) (copies base k) base (i / length base) (i % length base) (copies_index base k i p h) (mod-lt i p)
 
 -- Number i of the blocks of k + 1, k + 2 .. k + 1 + more copies is a number of the block that `block_of` finds.
 pub record InBlock (base : List SeqAlt) (y : SeqAlt) (highest all : ℕ) (b : Block) : Type 0 where
@@ -171,7 +171,7 @@ pub nth_block : (base : List SeqAlt) (k more i : ℕ) → i < length (copies_fro
 unfolding block_of pick
 nth_block base k zero i h =
     let e : length (copies base k ++ []) ≡ length (copies base k) + 0 = length-append (copies base k) [] in
-    record { same = nth-front (copies base k) [] i (omega arith); index = omega arith; few = omega arith; part = omega arith }
+    record { same = nth_front (copies base k) [] i (omega arith); index = omega arith; few = omega arith; part = omega arith }
 nth_block base k (suc more) i h = go (ltb i c) refl (λ p. nth_block base (suc k) more (i - c) p)
   where
     c : ℕ
@@ -187,7 +187,7 @@ nth_block base k (suc more) i h = go (ltb i c) refl (λ p. nth_block base (suc k
         → InBlock base (nth (copies base k ++ rest) i) (k + suc more) (length (copies base k ++ rest)) (pick t (record { later = k; index = i }) next)
     go true e ih =
         let q : i < length (copies base k) = omega (arith, ltb-true i c e, length-copies base k) in
-        record { same = nth-front (copies base k) rest i q; index = q; few = omega arith; part = omega (arith, length-append (copies base k) rest) }
+        record { same = nth_front (copies base k) rest i q; index = q; few = omega arith; part = omega (arith, length-append (copies base k) rest) }
     go false e ih =
         let q : c ≤ i = ltb-false i c e in
         let w : i ≡ length (copies base k) + (i - c) = omega (arith, length-copies base k) in
@@ -227,26 +227,26 @@ nth_empty zero ys zero h = refl
 nth_empty zero ys (suc i) h = absurd (omega arith)
 nth_empty (suc m) ys i h = absurd (omega (arith, no_empty (suc m) (λ (z : suc m ≡ 0). omega arith)))
 
-pub nth-past_empty : (m : ℕ) (ys : List SeqAlt) (i : ℕ) → empties m ≤ i → nth (with_empty m ys) i ≡ nth ys (i - empties m)
+pub nth_past_empty : (m : ℕ) (ys : List SeqAlt) (i : ℕ) → empties m ≤ i → nth (with_empty m ys) i ≡ nth ys (i - empties m)
 unfolding empties pick
-nth-past_empty zero ys zero h = absurd (omega arith)
-nth-past_empty zero ys (suc i) h = let e : suc i - 1 ≡ i = omega arith in rw e (sym (nth-next (single Empty) ys i))
-nth-past_empty (suc m) ys i h =
+nth_past_empty zero ys zero h = absurd (omega arith)
+nth_past_empty zero ys (suc i) h = let e : suc i - 1 ≡ i = omega arith in rw e (sym (nth_next (single Empty) ys i))
+nth_past_empty (suc m) ys i h =
     let e : i - empties (suc m) ≡ i = omega (arith, no_empty (suc m) (λ (z : suc m ≡ 0). omega arith)) in rw e refl
 
 -- Alternative i of a finite [*], where it is the Empty.
 pub nth_finite_empty : (base : List SeqAlt) (m x i : ℕ) → m ≤ x → i < empties m → nth (consec_finite base m x) i ≡ single Empty
 unfolding nth
 nth_finite_empty base m zero zero h k = refl
-nth_finite_empty base m zero (suc i) h k = absurd (omega (arith, empties-few m))
+nth_finite_empty base m zero (suc i) h k = absurd (omega (arith, empties_few m))
 nth_finite_empty base m (suc x) i h k =
     rw (finite_blocks base m (suc x) (omega arith)) (nth_empty m (copies_from base (m - 1) (suc x - (m - 1))) i k)
 
 -- Alternative i of a [*m:$]: "an Empty alternative first if m is 0, then one run of at least max(m,1)".
-pub nth-unbounded : (m b i : ℕ) → i < length (consec_unbounded m b)
+pub nth_unbounded : (m b i : ℕ) → i < length (consec_unbounded m b)
     → nth (consec_unbounded m b) i ≡ single (pick (ltb i (empties m)) Empty (ConsecAtLeast b (m - 1 + 1)))
 unfolding pick
-nth-unbounded m b i h = go (ltb i (empties m)) refl
+nth_unbounded m b i h = go (ltb i (empties m)) refl
   where
     run : List SeqAlt
     run = single (ConsecAtLeast b (suc (below m))) ∷ []
@@ -255,4 +255,4 @@ nth-unbounded m b i h = go (ltb i (empties m)) refl
     go true e = nth_empty m run i (ltb-true _ _ e)
     go false e =
         let z : i - empties m ≡ 0 = omega (arith, length-with_empty m run) in
-        nth-past_empty m run i (ltb-false _ _ e) ∙ rw (z, at_least_one m) (sym (nth_first _ _))
+        nth_past_empty m run i (ltb-false _ _ e) ∙ rw (z, at_least_one m) (sym (nth_first _ _))

@@ -25,12 +25,12 @@ use Rattle.expand.specs.ByNumber.{alternatives_of, copies_of, nth, hop_at, parts
 use Rattle.outline.specs.Outline.{is_repeated, count_in, bare_in, Expandable, Known}
 use Rattle.outline.proofs.Laws.{Repetition, repetition}
 use Rattle.outline.proofs.ByWords.{well_formed}
-use Rattle.outline.proofs.Readers.{bare-lower, inside-outline, bare-known}
+use Rattle.outline.proofs.Readers.{bare_lower, inside_outline, bare_known}
 use Rattle.expand.proofs.Arithmetic.{copies_monotone}
-use Rattle.expand.proofs.Index.{nth-delay, nth-fixed_from, nth-guarded, digits-below, Digits, InBlock, nth_block, length-copies, finite_blocks, nth-past_empty}
-use Rattle.expand.proofs.ByKind.{some_alternatives, few_alternatives, left_expandable, right_expandable, delay_alternatives, guarded_expandable, throughout_alternatives, copied_expandable, few_copies, copies-in_order, repeated_alternatives}
-use Rattle.expand.proofs.Counted.{delay_count, throughout_count, copied_some, copied-few, first_few, repeated_count}
-use Rattle.expand.proofs.Outlines.{Bared, count_known, left-known, right-known, guarded-known, copied-known, bare-found}
+use Rattle.expand.proofs.Index.{nth_delay, nth_fixed_from, nth_guarded, digits_below, Digits, InBlock, nth_block, length-copies, finite_blocks, nth_past_empty}
+use Rattle.expand.proofs.ByKind.{some_alternatives, few_alternatives, left_expandable, right_expandable, delay_alternatives, guarded_expandable, throughout_alternatives, copied_expandable, few_copies, copies_in_order, repeated_alternatives}
+use Rattle.expand.proofs.Counted.{delay_count, throughout_count, copied_some, copied_few, first_few, repeated_count}
+use Rattle.expand.proofs.Outlines.{Bared, count_known, left_known, right_known, guarded_known, copied_known, bare_found}
 
 -- The k-th hop of a delay.
 nth_hop : (min max k : ℕ) → k < length (hops min (max_of max)) → get_or (hops min (max_of max)) k (Fixed 0) ≡ hop_at min max k
@@ -40,7 +40,7 @@ nth_hop min max k h = go (eqb max unlimited) h
     go : (b : Bool) → k < length (hops min (pick b unbounded (finite max)))
         → get_or (hops min (pick b unbounded (finite max))) k (Fixed 0) ≡ pick b (AtLeast min) (Fixed (min + k))
     go true p = let e : k ≡ 0 = omega arith in rw e refl
-    go false p = nth-fixed_from min (suc max - min) k (omega (arith, length-hops min (finite max)))
+    go false p = nth_fixed_from min (suc max - min) k (omega (arith, length-hops min (finite max)))
 
 -- The k-th hop of a delay is a number of 32 bits.
 hop_fits : (min max k : ℕ) → min < unlimited → max < 4294967296 → k < length (hops min (max_of max)) → min + k < 4294967296
@@ -64,11 +64,11 @@ module _ {t o : List ℕ} {n i : ℕ} {v : Node} (N : OutlinedNumber t o n i) (w
   -- ---- delay
 
   module _ (k : v.kind ≡ 2) where
-    left-counted : count_in o v.p ≡ length (alternatives_of t v.p)
-    left-counted = count_known (left_expandable E w k) (left-known E K w k)
+    left_counted : count_in o v.p ≡ length (alternatives_of t v.p)
+    left_counted = count_known (left_expandable E w k) (left_known E K w k)
 
-    right-counted : count_in o v.q ≡ length (alternatives_of t v.q)
-    right-counted = count_known (right_expandable E w k) (right-known E K w k)
+    right_counted : count_in o v.q ≡ length (alternatives_of t v.q)
+    right_counted = count_known (right_expandable E w k) (right_known E K w k)
 
     left_some : 0 < length (alternatives_of t v.p)
     left_some = some_alternatives (left_expandable E w k)
@@ -78,23 +78,23 @@ module _ {t o : List ℕ} {n i : ℕ} {v : Node} (N : OutlinedNumber t o n i) (w
 
     -- The three digits of the number are below their bases.
     bounds : Digits i (length (hops v.min (max_of v.max))) (length (alternatives_of t v.p)) (length (alternatives_of t v.q))
-    bounds = digits-below i _ _ _ left_some right_some (rw (← delay_count E w k) N.numbered.index)
+    bounds = digits_below i _ _ _ left_some right_some (rw (← delay_count E w k) N.numbered.index)
 
     pub delay_counts : v.max < 4294967296 → DelayCounted o v i
     delay_counts z = record {
-      left_inside = inside-outline (left_expandable E w k) (left-known E K w k);
-      right_inside = inside-outline (right_expandable E w k) (right-known E K w k);
-      left_some = rw left-counted left_some;
-      right_some = rw right-counted right_some;
-      hop_small = rw (left-counted, right-counted) (hop_fits v.min v.max _ (words.delay_min k) z bounds.hop);
+      left_inside = inside_outline (left_expandable E w k) (left_known E K w k);
+      right_inside = inside_outline (right_expandable E w k) (right_known E K w k);
+      left_some = rw left_counted left_some;
+      right_some = rw right_counted right_some;
+      hop_small = rw (left_counted, right_counted) (hop_fits v.min v.max _ (words.delay_min k) z bounds.hop);
     }
 
   -- The measure falls: 3 for each node, one for each of the functions that call each other.
   pub left_below : {u : ℕ} → n * 3 ≡ u → v.kind ≡ 2 → v.p * 3 + 1 < u
   left_below e k = omega (arith, words.delay_left k)
 
-  pub right-below : {u : ℕ} → n * 3 ≡ u → v.kind ≡ 2 → v.q * 3 + 1 < u
-  right-below e k = omega (arith, words.delay_right k)
+  pub right_below : {u : ℕ} → n * 3 ≡ u → v.kind ≡ 2 → v.q * 3 + 1 < u
+  right_below e k = omega (arith, words.delay_right k)
 
   -- Both operands' alternatives are numbered, and the delay's joins them.
   module _ {s : Parts} (k : v.kind ≡ 2) (c : s ≡ delay_parts o v i) where
@@ -106,15 +106,15 @@ module _ {t o : List ℕ} {n i : ℕ} {v : Node} (N : OutlinedNumber t o n i) (w
 
     apart : s ≡ parts_of v.min v.max i (length ls) (length rs)
     unfolding delay_parts
-    apart = c ∙ rw (left-counted k, right-counted k) refl
+    apart = c ∙ rw (left_counted k, right_counted k) refl
 
-    pub left-numbered : OutlinedNumber t o v.p s.left
+    pub left_numbered : OutlinedNumber t o v.p s.left
     unfolding parts_of
-    left-numbered = record { numbered = record { node = left_expandable E w k; index = rw apart (bounds k).left }; known = left-known E K w k }
+    left_numbered = record { numbered = record { node = left_expandable E w k; index = rw apart (bounds k).left }; known = left_known E K w k }
 
-    pub right-numbered : OutlinedNumber t o v.q s.right
+    pub right_numbered : OutlinedNumber t o v.q s.right
     unfolding parts_of
-    right-numbered = record { numbered = record { node = right_expandable E w k; index = rw apart (bounds k).right }; known = right-known E K w k }
+    right_numbered = record { numbered = record { node = right_expandable E w k; index = rw apart (bounds k).right }; known = right_known E K w k }
 
     pub nth_of_delay : nth (alternatives_of t n) i
         ≡ joined s.hop (nth (alternatives_of t v.p) s.left) (nth (alternatives_of t v.q) s.right)
@@ -124,25 +124,25 @@ module _ {t o : List ℕ} {n i : ℕ} {v : Node} (N : OutlinedNumber t o n i) (w
         let h : i / length rs / length ls < length hs = (bounds k).hop in
         rw apart
         (ap (λ (z : List SeqAlt). nth z i) (delay_alternatives E w k)
-        ∙ nth-delay hs ls rs i (left_some k) (right_some k) (rw (delay_alternatives E w k) at N.numbered.index)
+        ∙ nth_delay hs ls rs i (left_some k) (right_some k) (rw (delay_alternatives E w k) at N.numbered.index)
         ∙ ap (λ (z : SeqHop). joined z (nth ls (i / length rs % length ls)) (nth rs (i % length rs))) (nth_hop v.min v.max _ h))
 
   -- ---- throughout: the operand's alternative of the same number, with one guard more
 
-  pub guarded-below : {u : ℕ} → n * 3 ≡ u → v.kind ≡ 6 → v.q * 3 + 1 < u
-  guarded-below e k = omega (arith, words.throughout_under k)
+  pub guarded_below : {u : ℕ} → n * 3 ≡ u → v.kind ≡ 6 → v.q * 3 + 1 < u
+  guarded_below e k = omega (arith, words.throughout_under k)
 
-  pub guarded-numbered : v.kind ≡ 6 → OutlinedNumber t o v.q i
-  guarded-numbered k = record {
+  pub guarded_numbered : v.kind ≡ 6 → OutlinedNumber t o v.q i
+  guarded_numbered k = record {
     numbered = record { node = guarded_expandable E w k; index = rw (throughout_count E w k) at N.numbered.index };
-    known = guarded-known E K w k;
+    known = guarded_known E K w k;
   }
 
   pub nth_of_throughout : v.kind ≡ 6
       → let y = nth (alternatives_of t v.q) i in nth (alternatives_of t n) i ≡ alternative y.steps (and_opt y.guard (guard (any (a· v.p))))
   nth_of_throughout k =
       ap (λ (z : List SeqAlt). nth z i) (throughout_alternatives E w k)
-      ∙ nth-guarded v.p (alternatives_of t v.q) i (guarded-numbered k).numbered.index
+      ∙ nth_guarded v.p (alternatives_of t v.q) i (guarded_numbered k).numbered.index
 
 -- What the tests of `made_of_copies` say.
 pub record Copied (v : Node) (i : ℕ) : Type 0 where
@@ -166,14 +166,14 @@ module _ {t o : List ℕ} {n i : ℕ} {v : Node} (N : OutlinedNumber t o n i) (w
   Q = R.repetition
 
   base_counted : count_in o v.p ≡ length (alternatives_of t v.p)
-  base_counted = count_known (copied_expandable E' w Q) (copied-known E' N.known w Q)
+  base_counted = count_known (copied_expandable E' w Q) (copied_known E' N.known w Q)
 
-  pub copies-counts : CopiesCounted o v i
-  copies-counts = record {
-    inside = inside-outline (copied_expandable E' w Q) (copied-known E' N.known w Q);
+  pub copies_counts : CopiesCounted o v i
+  copies_counts = record {
+    inside = inside_outline (copied_expandable E' w Q) (copied_known E' N.known w Q);
     some = copied_some E' w Q base_counted;
-    few = copied-few E' w Q base_counted;
-    order = copies-in_order E' w Q;
+    few = copied_few E' w Q base_counted;
+    order = copies_in_order E' w Q;
     live = Q.live;
     few_copies = few_copies E' w Q;
     first_few = first_few E' w Q base_counted;
@@ -193,12 +193,12 @@ module _ {t o : List ℕ} {n i : ℕ} {v : Node} (N : OutlinedNumber t o n i) (w
     j = i - empties v.min
 
     blocks : v.max - (v.min - 1) ≡ suc more
-    blocks = omega (arith, Q.live, copies-in_order E' w Q)
+    blocks = omega (arith, Q.live, copies_in_order E' w Q)
 
     in_blocks : nth (alternatives_of t n) i ≡ nth (copies_from base (v.min - 1) (suc more)) j
     in_blocks =
         ap (λ (z : List SeqAlt). nth z i) (repeated_alternatives E' w Q ∙ finite_blocks base v.min v.max Q.live)
-        ∙ nth-past_empty v.min _ i R.past
+        ∙ nth_past_empty v.min _ i R.past
         ∙ ap (λ (z : ℕ). nth (copies_from base (v.min - 1) z) j) blocks
 
     found : InBlock base (nth (alternatives_of t n) i) 256 256 b
@@ -207,7 +207,7 @@ module _ {t o : List ℕ} {n i : ℕ} {v : Node} (N : OutlinedNumber t o n i) (w
         let k = v.min - 1 in
         let count = repeated_count E' w Q ∙ ap (λ (z : ℕ). empties v.min + length (copies_from base k z)) blocks in
         let there = nth_block base k more j (omega (arith, N.numbered.index, count, R.past)) in
-        let few : (block_of (length base) k more j).later ≤ 256 = omega (arith, there.few, few_copies E' w Q, copies-in_order E' w Q, Q.live) in
+        let few : (block_of (length base) k more j).later ≤ 256 = omega (arith, there.few, few_copies E' w Q, copies_in_order E' w Q, Q.live) in
         rw (g, base_counted)
         (record { same = in_blocks ∙ there.same; index = there.index; few = few; part = omega (arith, there.part, few_alternatives E', count) })
 
@@ -218,7 +218,7 @@ module _ {t o : List ℕ} {n i : ℕ} {v : Node} (N : OutlinedNumber t o n i) (w
     unfolding copies_of
     block_numbered = record {
       numbered = record { node = copied_expandable E' w Q; few = found.few; few_numbers = found.part; index = found.index };
-      known = copied-known E' N.known w Q;
+      known = copied_known E' N.known w Q;
     }
 
     pub nth_of_block : nth (alternatives_of t n) i ≡ nth (copies_of (alternatives_of t v.p) b.later) b.index
@@ -228,10 +228,10 @@ module _ {t o : List ℕ} {n i : ℕ} {v : Node} (N : OutlinedNumber t o n i) (w
 -- ---- k + 1 copies, of which one is looked at that so many others follow
 
 -- The number of each copy is one of the operand's.
-copy_number-below : (a i later : ℕ) → 0 < a → copy_number a i later < a
+copy_number_below : (a i later : ℕ) → 0 < a → copy_number a i later < a
 unfolding copy_number
-copy_number-below a i zero h = mod-lt i h
-copy_number-below a i (suc later) h = copy_number-below a (i / a) later h
+copy_number_below a i zero h = mod-lt i h
+copy_number_below a i (suc later) h = copy_number_below a (i / a) later h
 
 module _ {t o : List ℕ} {n k i : ℕ} (C : OutlinedCopies t o n k i) where
   abbrev E'' : Expandable t n
@@ -241,7 +241,7 @@ module _ {t o : List ℕ} {n k i : ℕ} (C : OutlinedCopies t o n k i) where
   copy_below e = omega arith
 
   pub copy_inside : n < length o
-  copy_inside = inside-outline E'' C.known
+  copy_inside = inside_outline E'' C.known
 
   pub copy_some : 0 < count_in o n
   copy_some = rw (count_known E'' C.known) (some_alternatives E'')
@@ -257,29 +257,29 @@ module _ {t o : List ℕ} {n k i : ℕ} (C : OutlinedCopies t o n k i) where
   pub copy_numbered : (later : ℕ) {d : ℕ} → d ≡ copy_number (count_in o n) i later → OutlinedNumber t o n d
   copy_numbered later e = record {
     known = C.known;
-    numbered = record { node = E''; index = rw (e, count_known E'' C.known) (copy_number-below (length (alternatives_of t n)) i later (some_alternatives E'')) };
+    numbered = record { node = E''; index = rw (e, count_known E'' C.known) (copy_number_below (length (alternatives_of t n)) i later (some_alternatives E'')) };
   }
 
   pub copy_counted : (later : ℕ) {d : ℕ} → d ≡ copy_number (count_in o n) i later → d ≡ copy_number (length (alternatives_of t n)) i later
   copy_counted later e = e ∙ rw (count_known E'' C.known) refl
 
 -- The node's own word can be read.
-pub node-inside : {t o : List ℕ} {n i : ℕ} → OutlinedNumber t o n i → n < length o
-node-inside N = inside-outline N.numbered.node N.known
+pub node_inside : {t o : List ℕ} {n i : ℕ} → OutlinedNumber t o n i → n < length o
+node_inside N = inside_outline N.numbered.node N.known
 
 -- ---- [*1]: the node that is left without it, which `alternative` has under the name m
 
 module _ {t o : List ℕ} {n i m : ℕ} (N : OutlinedNumber t o n i) (e : m ≡ bare_in o n) where
   left_over : Bared t o n m
-  left_over = bare-found N.numbered.node N.known e
+  left_over = bare_found N.numbered.node N.known e
 
-  pub bare-below : {u : ℕ} → n * 3 + 1 ≡ u → m * 3 < u
-  bare-below x =
+  pub bare_below : {u : ℕ} → n * 3 + 1 ≡ u → m * 3 < u
+  bare_below x =
       let E = N.numbered.node in
-      omega (arith, e ∙ bare-known E N.known, bare-lower t n E.formed E.inside)
+      omega (arith, e ∙ bare_known E N.known, bare_lower t n E.formed E.inside)
 
-  pub bare-numbered : OutlinedNumber t o m i
-  bare-numbered = record {
+  pub bare_numbered : OutlinedNumber t o m i
+  bare_numbered = record {
     numbered = record { node = left_over.node; index = rw left_over.same N.numbered.index };
     known = left_over.known;
   }

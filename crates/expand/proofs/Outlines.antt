@@ -16,7 +16,7 @@ use Rattle.meaning.proofs.Ranges.{by_kind}
 use Rattle.outline.specs.Outline.{is_once, bare, count_in, bare_in, Outlined, Expandable, Known}
 use Rattle.outline.proofs.Laws.{Repetition}
 use Rattle.outline.proofs.ByWords.{is_atom, is_delay, is_finite, is_unbounded, is_goto, is_nonconsec, is_throughout}
-use Rattle.outline.proofs.Readers.{count_known as count_read, bare-known}
+use Rattle.outline.proofs.Readers.{count_known as count_read, bare_known}
 use Rattle.expand.specs.declared.Parts.{Parts}
 use Rattle.expand.specs.declared.Block.{Block}
 use Rattle.expand.specs.ByNumber.{alternatives_of, hop_at, parts_of, delay_parts, copies_count, block_of, copies_block, empties, copy_number, DelayCounted, CopiesCounted}
@@ -36,20 +36,20 @@ module _ {t o : List ℕ} {n : ℕ} (E : Expandable t n) (K : Known t o n) where
   -- ---- the operands
 
   module _ {v : Node} (w : v ≡ node_at t n) where
-    pub left-known : v.kind ≡ 2 → Known t o v.p
+    pub left_known : v.kind ≡ 2 → Known t o v.p
     unfolding Outlined
-    left-known k = record { long = K.long; outline = (let O = rw (is_delay E.formed E.inside w k) at K.outline in O.0) }
+    left_known k = record { long = K.long; outline = (let O = rw (is_delay E.formed E.inside w k) at K.outline in O.0) }
 
-    pub right-known : v.kind ≡ 2 → Known t o v.q
+    pub right_known : v.kind ≡ 2 → Known t o v.q
     unfolding Outlined
-    right-known k = record { long = K.long; outline = (let O = rw (is_delay E.formed E.inside w k) at K.outline in O.1) }
+    right_known k = record { long = K.long; outline = (let O = rw (is_delay E.formed E.inside w k) at K.outline in O.1) }
 
-    pub guarded-known : v.kind ≡ 6 → Known t o v.q
+    pub guarded_known : v.kind ≡ 6 → Known t o v.q
     unfolding Outlined
-    guarded-known k = record { long = K.long; outline = (let O = rw (is_throughout E.formed E.inside w k) at K.outline in O.0) }
+    guarded_known k = record { long = K.long; outline = (let O = rw (is_throughout E.formed E.inside w k) at K.outline in O.0) }
 
-    pub copied-known : Repetition v → Known t o v.p
-    copied-known R = record {
+    pub copied_known : Repetition v → Known t o v.p
+    copied_known R = record {
       long = K.long;
       outline = outlined_copies t o n (tree_at t v.p) v.min v.max R.live (rw (is_finite E.formed E.inside w R.kind R.limited) at K.outline);
     }
@@ -73,7 +73,7 @@ module _ {t o : List ℕ} where
   once n E K k m x below =
       let v = node_at t n in
       let R : Repetition v = record { kind = k; limited = λ u. absurd (omega arith); live = omega arith } in
-      let B = below v.p ((E.formed.each n E.inside).consec_under k) (copied_expandable E refl R) (copied-known E K refl R) in
+      let B = below v.p ((E.formed.each n E.inside).consec_under k) (copied_expandable E refl R) (copied_known E K refl R) in
       let tree : bare (tree_at t n) ≡ bare (tree_at t v.p) = ap bare (is_finite E.formed E.inside refl k R.limited) ∙ rw (m, x) refl in
       let alts : alternatives_of t n ≡ alternatives_of t v.p = repeated_alternatives E refl R ∙ rw (m, x) (append-nil _) in
       rw tree (record { node = B.node; known = B.known; same = B.same ∙ sym alts })
@@ -103,8 +103,8 @@ module _ {t o : List ℕ} where
       v : Node
       v = node_at t n
 
-  pub bare-found : {n m : ℕ} → Expandable t n → Known t o n → m ≡ bare_in o n → Bared t o n m
-  bare-found {n} E K e = rw (e, bare-known E K) (bared (suc n) n (omega arith) E K)
+  pub bare_found : {n m : ℕ} → Expandable t n → Known t o n → m ≡ bare_in o n → Bared t o n m
+  bare_found {n} E K e = rw (e, bare_known E K) (bared (suc n) n (omega arith) E K)
 
 -- ---- what the counts in the outline say of a number: `delay_parts`, `copies_block` and `copy_number`, which have them as a and b
 

@@ -11,7 +11,7 @@ use lib.Seq.{drop-cons, length-take-le}
 use borrow.Author.Tests.{eq-eqb, ne_eqb}
 use Rattle.words.specs.Choice.{pick, pick_true, pick_false, pick_case}
 use Rattle.words.specs.Written.{Wrote}
-use Rattle.words.proofs.Laws.{Going, begin, go, done, same_words, still_long, front-written, nothing_written}
+use Rattle.words.proofs.Laws.{Going, begin, go, done, same_words, still_long, front_written, nothing_written}
 use Rattle.meaning.specs.Lower.{words_of, lower, output_after}
 use Rattle.meaning.specs.declared.Lowered.{Lowered}
 use Rattle.meaning.specs.declared.Lowered.TheVariants.{Listing, Refused}
@@ -54,28 +54,28 @@ planting_ends {nodes} P h = done (rw (drop_of_length-le nodes h) at P.going)
 
 -- The trees: each finds room in 25 words.
 module _ {room : ℕ} (h : 25 ≤ room) where
-  pub hot_kept-fits : length (words_in hot_kept) ≤ room
+  pub hot_kept_fits : length (words_in hot_kept) ≤ room
   unfolding words_in
-  hot_kept-fits = omega arith
+  hot_kept_fits = omega arith
 
-  pub good_replaced-fits : length (words_in good_replaced) ≤ room
+  pub good_replaced_fits : length (words_in good_replaced) ≤ room
   unfolding words_in
-  good_replaced-fits = omega arith
+  good_replaced_fits = omega arith
 
-  pub wrong_in_row-fits : length (words_in wrong_in_row) ≤ room
+  pub wrong_in_row_fits : length (words_in wrong_in_row) ≤ room
   unfolding words_in
-  wrong_in_row-fits = omega arith
+  wrong_in_row_fits = omega arith
 
-  pub wrong_at_start-fits : length (words_in wrong_at_start) ≤ room
+  pub wrong_at_start_fits : length (words_in wrong_at_start) ≤ room
   unfolding words_in
-  wrong_at_start-fits = omega arith
+  wrong_at_start_fits = omega arith
 
   pub tree_fits : (number : ℕ) → length (tree_of number) ≤ room
   unfolding tree_of
   tree_fits number =
-      pick_case Fits (eqb number 1) (λ _. hot_kept-fits)
-      λ _. pick_case Fits (eqb number 2) (λ _. good_replaced-fits)
-      λ _. pick_case Fits (eqb number 3) (λ _. wrong_in_row-fits) λ _. wrong_at_start-fits
+      pick_case Fits (eqb number 1) (λ _. hot_kept_fits)
+      λ _. pick_case Fits (eqb number 2) (λ _. good_replaced_fits)
+      λ _. pick_case Fits (eqb number 3) (λ _. wrong_in_row_fits) λ _. wrong_at_start_fits
     where
       Fits : List ℕ → Type 0
       Fits l = length l ≤ room
@@ -106,7 +106,7 @@ module _ (number : ℕ) {o tree : List ℕ} {words : ℕ} (long : length o ≡ 2
   tree_inside = omega (arith, w.ends, still_long w, long, tree_fits {room = 25} (omega arith) number)
 
   pub tree_planted : take words tree ≡ tree_of number
-  tree_planted = front-written w (omega (arith, long, tree_fits {room = 25} (omega arith) number))
+  tree_planted = front_written w (omega (arith, long, tree_fits {room = 25} (omega arith) number))
 
   pub tree_as_long : words ≡ length (take words tree)
   tree_as_long = sym (length-take-le words tree tree_inside)
@@ -118,9 +118,9 @@ module _ (number : ℕ) {o tree : List ℕ} {words : ℕ} (long : length o ≡ 2
 
 -- What a tree lowers to: nothing where it is refused, else the words of its listing, which find room.
 module _ {t work out : List ℕ} {answer : Lowered} {work' out' : List ℕ} (L : Lowers t 0 work out answer work' out') where
-  pub nothing-listed : {number place : ℕ} → answer ≡ Refused number place → Wrote out out' 0 0 (listed t (length work) (length out))
+  pub nothing_listed : {number place : ℕ} → answer ≡ Refused number place → Wrote out out' 0 0 (listed t (length work) (length out))
   unfolding listed listed_by output_after
-  nothing-listed e = rw (← L.answers, L.holds, e) (nothing_written out 0)
+  nothing_listed e = rw (← L.answers, L.holds, e) (nothing_written out 0)
 
   pub words_listed : {registers words deepest : ℕ} → answer ≡ Listing registers words deepest → Wrote out out' 0 words (listed t (length work) (length out))
   unfolding listed listed_by output_after words_of
@@ -128,13 +128,13 @@ module _ {t work out : List ℕ} {answer : Lowered} {work' out' : List ℕ} (L :
       let fitting = (a_listed_table_passed_all t (length work) (length out) 0 registers words deepest (sym L.answers ∙ e)).fitting in
       rw (← L.answers, L.holds, e) (record { holds = refl; ends = omega (arith, fitting.words_are) })
 
-listed-few : (answer : Lowered) (t : List ℕ) (work out : ℕ) → lower t work out 0 ≡ answer → length (listed_by answer t) ≤ out
+listed_few : (answer : Lowered) (t : List ℕ) (work out : ℕ) → lower t work out 0 ≡ answer → length (listed_by answer t) ≤ out
 unfolding listed_by words_of
-listed-few (Listing registers words deepest) t work out e =
+listed_few (Listing registers words deepest) t work out e =
     let fitting = (a_listed_table_passed_all t work out 0 registers words deepest e).fitting in
-    omega (arith, fitting.words_are, fitting.long-enough)
-listed-few (Refused number place) t work out e = omega arith
+    omega (arith, fitting.words_are, fitting.long_enough)
+listed_few (Refused number place) t work out e = omega arith
 
-pub listed-fits : (t : List ℕ) (work out : ℕ) → length (listed t work out) ≤ out
+pub listed_fits : (t : List ℕ) (work out : ℕ) → length (listed t work out) ≤ out
 unfolding listed
-listed-fits t work out = listed-few (lower t work out 0) t work out refl
+listed_fits t work out = listed_few (lower t work out 0) t work out refl

@@ -10,7 +10,7 @@ use lib.Seq.{take_all, length-take-le}
 use borrow.Author.Tests.{lt-ltb, le-ltb, le-leb, lt-leb, eq-eqb, ne_eqb}
 use Rattle.words.specs.Choice.{pick_true, pick_false}
 use Rattle.words.specs.Written.{written, Wrote}
-use Rattle.words.proofs.Laws.{Copying, copying_on, copying_ends, front-written, length-written, still_long}
+use Rattle.words.proofs.Laws.{Copying, copying_on, copying_ends, front_written, length-written, still_long}
 use Rattle.meaning.specs.Tick.{tick, next_after, stack_left}
 use Rattle.meaning.specs.declared.Ticked.{Ticked}
 use Rattle.meaning.specs.declared.Ticked.TheVariants.{Match, Refused as RefusedTick}
@@ -27,7 +27,7 @@ use Rattle.frame.specs.Advanced.{Advanced}
 use Rattle.frame.specs.Watched.{picture, pixel_of, leaving_at, atoms_of, said, watched_from, verdict_on, verdict_of}
 use Rattle.frame.specs.declared.Verdict.{Verdict}
 use Rattle.frame.specs.declared.Verdict.TheVariants.{Quiet, Alarm, Refused}
-use Rattle.frame.proofs.AssertionLaws.{listed-fits}
+use Rattle.frame.proofs.AssertionLaws.{listed_fits}
 
 -- What the sensor reads, during the frame and after it.
 pub after_the_frame : (t : ℕ) → 360960 ≤ t → 0 ≡ pixel_of t
@@ -45,7 +45,7 @@ unfolding written
 copy_on c h e = copying_on c (omega (arith, c.long)) (record { holds = refl; ends = refl })
 
 pub copy_ends : {from o o' : List ℕ} {i : ℕ} → Copying from o 0 o' i i → length o' ≤ i → length from ≡ length o → o' ≡ from
-copy_ends {from} {o} {o'} {i} c h e = sym (take_all i o' h) ∙ front-written (copying_ends c (omega (arith, c.long))) (omega arith)
+copy_ends {from} {o} {o'} {i} c h e = sym (take_all i o' h) ∙ front_written (copying_ends c (omega (arith, c.long))) (omega arith)
 
 -- A tick whose registers are copied.
 pub advanced : {ws cur atoms next next' stack stack' cur' : List ℕ} {r : Ticked} → Ticks ws cur atoms next next' stack stack' r → cur' ≡ next'
@@ -68,12 +68,12 @@ pub next_stays_long : {ws cur cur' atoms next next' stack stack' : List ℕ} {r 
 next_stays_long {ws} {cur} {atoms = atoms} {next} {r = r} A = ap length A.next_holds ∙ length-next r ws cur atoms next
 
 -- One tick of the definition.
-one-tick : (atoms : ℕ → List ℕ) (ws : List ℕ) {left ticks : ℕ} (t : ℕ) (registers : List ℕ) → left ≡ suc ticks
+one_tick : (atoms : ℕ → List ℕ) (ws : List ℕ) {left ticks : ℕ} (t : ℕ) (registers : List ℕ) → left ≡ suc ticks
     → watched_from atoms ws left t registers
     ≡ said (tick ws registers (atoms t) 64 64) t
     (watched_from atoms ws ticks (t + 1) (next_after (tick ws registers (atoms t) 64 64) ws registers (atoms t) registers))
 unfolding watched_from
-one-tick atoms ws t registers e = rw e refl
+one_tick atoms ws t registers e = rw e refl
 
 no_tick : (atoms : ℕ → List ℕ) (ws : List ℕ) {left : ℕ} (t : ℕ) (registers : List ℕ) → left ≡ 0 → watched_from atoms ws left t registers ≡ Quiet
 unfolding watched_from
@@ -132,7 +132,7 @@ module _ {map ws rows cur next stack : List ℕ} {reached t : ℕ} (W : Watching
   this_tick : verdict_on map ws ≡ said r t (watched_from (atoms_of map) ws (360962 - (t + 1)) (t + 1) cur')
   this_tick =
       let e : 360962 - t ≡ suc (360962 - (t + 1)) = omega arith in
-      W.rest ∙ one-tick (atoms_of map) ws t cur e ∙ rw (← answer_is, ← registers_are) refl
+      W.rest ∙ one_tick (atoms_of map) ws t cur e ∙ rw (← answer_is, ← registers_are) refl
 
   pub refused_there : {number place : ℕ} → r ≡ RefusedTick number place → Refused ≡ verdict_on map ws
   unfolding said
@@ -163,13 +163,13 @@ quiet_there {map} {ws} {cur = cur} {t = t} W h = sym (W.rest ∙ no_tick (atoms_
 
 -- The assertion's listing stands in front of the 256 words that it was put into.
 module _ (number work : ℕ) {o out : List ℕ} {words : ℕ} (w : Wrote o out 0 words (listed (tree_of number) work (length o))) (long : length o ≡ 256) where
-  pub listing-inside : words ≤ length out
-  listing-inside = omega (arith, w.ends, still_long w, long, listed-fits (tree_of number) work (length o))
+  pub listing_inside : words ≤ length out
+  listing_inside = omega (arith, w.ends, still_long w, long, listed_fits (tree_of number) work (length o))
 
   pub listing_as_long : words ≡ length (take words out)
-  listing_as_long = sym (length-take-le words out listing-inside)
+  listing_as_long = sym (length-take-le words out listing_inside)
 
   pub assertion_watched : (map : List ℕ) {verdict : Verdict} → work ≡ 1024 → verdict ≡ verdict_on map (take words out) → verdict ≡ verdict_of map number
   unfolding verdict_of
   assertion_watched map k e =
-      e ∙ rw (front-written w (listed-fits (tree_of number) work (length o)), k, long) refl
+      e ∙ rw (front_written w (listed_fits (tree_of number) work (length o)), k, long) refl

@@ -8,7 +8,7 @@ use native.Mathlib.Nat.{add-zero, sub-zero}
 use native.Mathlib.Numerals.{add-one}
 use lib.ListN.{length, length-append}
 use Rattle.words.specs.Written.{Wrote}
-use Rattle.words.proofs.Laws.{Going, begin, go, last, done, two_parts, three_parts, same_words, same_room, first_room as front-room, second_room as behind-room, both_done, third_room, three_done}
+use Rattle.words.proofs.Laws.{Going, begin, go, last, done, two_parts, three_parts, same_words, same_room, first_room as front_room, second_room as behind_room, both_done, third_room, three_done}
 use Rattle.term.specs.Steps.{term_atom}
 use Rattle.term.specs.declared.Kept.{Kept}
 use Rattle.meaning.specs.Expression.{gto, ncx}
@@ -70,7 +70,7 @@ module _ {m : Machine} {o : List ℕ} {at : ℕ} {o' : List ℕ} {p i : ℕ} (D 
       rw (f, g) (rw e at D.going)
 
   stage_room : at + length (later_stages m 2) ≤ length o → p + 11 ≤ length o'
-  stage_room F = front-room p stage_words (later_stages m (i + 1)) refl (omega (arith, stage_onward.place, D.long, F))
+  stage_room F = front_room p stage_words (later_stages m (i + 1)) refl (omega (arith, stage_onward.place, D.long, F))
 
   pub staging_on : {o₁ : List ℕ} {p₁ : ℕ} → Wrote o' o₁ p p₁ stage_words → Staging m o at o₁ p₁ (i + 1)
   staging_on {o₁} {p₁} w = record { later = omega (arith, D.later); long = next.long; going = next }
@@ -86,7 +86,7 @@ module _ (m : Machine) (A : List ℕ) where
   pub first_room : (at : ℕ) {n : ℕ} → at + length (goto_store_words m A) ≤ n → at + (7 + length A) ≤ n
   unfolding goto_store_words
   first_room at {n} h =
-      let room : at + length (goto_first m A) ≤ n = front-room at (goto_first m A) behind_first refl h in
+      let room : at + length (goto_first m A) ≤ n = front_room at (goto_first m A) behind_first refl h in
       omega (arith, simp length-append at room)
 
   pub only_first : {at p : ℕ} {o o₁ : List ℕ} → m.count < 2 → Wrote o o₁ at p (goto_first m A) → Wrote o o₁ at p (goto_store_words m A)
@@ -104,13 +104,13 @@ module _ (m : Machine) (A : List ℕ) where
 
     pub second_room : at + length (goto_store_words m A) ≤ length o → p₁ + (12 + length A) ≤ length o₁
     second_room z =
-        let rest : p₁ + length (goto_second m A ++ later_stages m 2) ≤ length o₁ = behind-room (goto_first m A) (goto_second m A ++ later_stages m 2) goto_parts z u in
-        let room : p₁ + length (goto_second m A) ≤ length o₁ = front-room p₁ (goto_second m A) (later_stages m 2) refl rest in
+        let rest : p₁ + length (goto_second m A ++ later_stages m 2) ≤ length o₁ = behind_room (goto_first m A) (goto_second m A ++ later_stages m 2) goto_parts z u in
+        let room : p₁ + length (goto_second m A) ≤ length o₁ = front_room p₁ (goto_second m A) (later_stages m 2) refl rest in
         omega (arith, simp length-append at room)
 
     module _ {p₂ p i : ℕ} {o₂ o₃ : List ℕ} (v : Wrote o₁ o₂ p₁ p₂ (goto_second m A)) (D : Staging m o₂ p₂ o₃ p i) where
-      pub later-room : at + length (goto_store_words m A) ≤ length o → i < m.count → p + 11 ≤ length o₃
-      later-room z l = stage_room D l (third_room (goto_first m A) (goto_second m A) (later_stages m 2) goto_parts z u v)
+      pub later_room : at + length (goto_store_words m A) ≤ length o → i < m.count → p + 11 ≤ length o₃
+      later_room z l = stage_room D l (third_room (goto_first m A) (goto_second m A) (later_stages m 2) goto_parts z u v)
 
       pub goto_done : m.count ≤ i → Wrote o o₃ at p (goto_store_words m A)
       unfolding goto_stage_words
@@ -126,12 +126,12 @@ module _ (m : Machine) (A : List ℕ) {stages : ℕ} (e : stages ≡ at_least_on
   nonconsec_parts = rw e refl
 
   pub nonconsec_goto_room : (at : ℕ) {n : ℕ} → at + length (nonconsec_store_words m A) ≤ n → at + length (goto_store_words m A) ≤ n
-  nonconsec_goto_room at h = front-room at (goto_store_words m A) (match_text m A ++ extension) nonconsec_parts h
+  nonconsec_goto_room at h = front_room at (goto_store_words m A) (match_text m A ++ extension) nonconsec_parts h
 
   module _ {at p₁ : ℕ} {o o₁ : List ℕ} (u : Wrote o o₁ at p₁ (goto_store_words m A)) where
     pub nonconsec_match_room : at + length (nonconsec_store_words m A) ≤ length o → p₁ + length (match_text m A) ≤ length o₁
     nonconsec_match_room h =
-        front-room p₁ (match_text m A) extension refl (behind-room (goto_store_words m A) (match_text m A ++ extension) nonconsec_parts h u)
+        front_room p₁ (match_text m A) extension refl (behind_room (goto_store_words m A) (match_text m A ++ extension) nonconsec_parts h u)
 
     module _ {p₂ : ℕ} {o₂ : List ℕ} (v : Wrote o₁ o₂ p₁ p₂ (match_text m A)) where
       pub nonconsec_extension_room : at + length (nonconsec_store_words m A) ≤ length o → p₂ < length o₂
@@ -145,20 +145,20 @@ unfolding term_registers
 match_fits S = record { high = omega (arith, S.register); atom = S.atom }
 
 -- The loop of `consec_run_fsm` from the i-th register on.
-abbrev runs-from : Machine → ℕ → List ℕ
-runs-from m i = run_stage_words m.atom (m.register + i) (m.count - 1 - i)
+abbrev runs_from : Machine → ℕ → List ℕ
+runs_from m i = run_stage_words m.atom (m.register + i) (m.count - 1 - i)
 
 pub record Running (m : Machine) (o : List ℕ) (at : ℕ) (o' : List ℕ) (p i : ℕ) : Type 0 where
   pub turn : i ≤ m.count - 1
   pub long : length o' ≡ length o
-  pub going : Going o at (runs-from m 0) o' p (runs-from m i)
+  pub going : Going o at (runs_from m 0) o' p (runs_from m i)
 
 pub running_begins : (m : Machine) (o : List ℕ) (at : ℕ) → Running m o at o at 0
-running_begins m o at = record { turn = omega arith; long = refl; going = begin o at (runs-from m 0) }
+running_begins m o at = record { turn = omega arith; long = refl; going = begin o at (runs_from m 0) }
 
 module _ {m : Machine} {o : List ℕ} {at : ℕ} {o' : List ℕ} {p i top : ℕ} (D : Running m o at o' p i) (t : top ≡ m.count - 1) where
   module _ (h : i < top) where
-    run_onward : Going o at (runs-from m 0) o' p (run_stage m.atom (m.register + i) ++ runs-from m (i + 1))
+    run_onward : Going o at (runs_from m 0) o' p (run_stage m.atom (m.register + i) ++ runs_from m (i + 1))
     unfolding run_stage_words
     run_onward =
         let e : m.count - 1 - i ≡ suc (m.count - 1 - (i + 1)) = omega (arith, h, t) in
@@ -168,10 +168,10 @@ module _ {m : Machine} {o : List ℕ} {at : ℕ} {o' : List ℕ} {p i top : ℕ}
     pub running_on : {o₁ : List ℕ} {p₁ : ℕ} → Wrote o' o₁ p p₁ (run_stage m.atom (m.register + i)) → Running m o at o₁ p₁ (i + 1)
     running_on {o₁} {p₁} w = record { turn = omega (arith, h, t); long = next.long; going = next }
       where
-        next : Going o at (runs-from m 0) o₁ p₁ (runs-from m (i + 1))
-        next = go (run_stage m.atom (m.register + i)) (runs-from m (i + 1)) run_onward w
+        next : Going o at (runs_from m 0) o₁ p₁ (runs_from m (i + 1))
+        next = go (run_stage m.atom (m.register + i)) (runs_from m (i + 1)) run_onward w
 
-  top_onward : top ≤ i → Going o at (runs-from m 0) o' p (run_top m.atom (m.register + top))
+  top_onward : top ≤ i → Going o at (runs_from m 0) o' p (run_top m.atom (m.register + top))
   unfolding run_stage_words
   top_onward h =
       let e : m.count - 1 - i ≡ 0 = omega (arith, h, t) in
@@ -180,22 +180,22 @@ module _ {m : Machine} {o : List ℕ} {at : ℕ} {o' : List ℕ} {p i top : ℕ}
 
 -- `consec_run_fsm`: the activation, the registers, the top one.
 module _ (m : Machine) (A : List ℕ) where
-  run_parts : run_store_words m A ≡ A ++ runs-from m 0
+  run_parts : run_store_words m A ≡ A ++ runs_from m 0
   unfolding run_store_words
   run_parts = rw (add-zero m.register, sub-zero (m.count - 1)) refl
 
   pub run_room : (at : ℕ) {n : ℕ} → at + length (run_store_words m A) ≤ n → at + length A ≤ n
-  run_room at h = front-room at A (runs-from m 0) run_parts h
+  run_room at h = front_room at A (runs_from m 0) run_parts h
 
   module _ {at p₁ p i top : ℕ} {o o₁ o₂ : List ℕ} (u : Wrote o o₁ at p₁ A) (D : Running m o₁ p₁ o₂ p i) (t : top ≡ m.count - 1) where
     pub running_room : at + length (run_store_words m A) ≤ length o → i < top → p + 5 ≤ length o₂
     running_room z h =
-        let rest : p₁ + length (runs-from m 0) ≤ length o₁ = behind-room A (runs-from m 0) run_parts z u in
-        front-room p (run_stage m.atom (m.register + i)) (runs-from m (i + 1)) refl (omega (arith, (run_onward D t h).place, D.long, rest))
+        let rest : p₁ + length (runs_from m 0) ≤ length o₁ = behind_room A (runs_from m 0) run_parts z u in
+        front_room p (run_stage m.atom (m.register + i)) (runs_from m (i + 1)) refl (omega (arith, (run_onward D t h).place, D.long, rest))
 
-    pub top-room : at + length (run_store_words m A) ≤ length o → top ≤ i → p + 6 ≤ length o₂
-    top-room z h =
-        let rest : p₁ + length (runs-from m 0) ≤ length o₁ = behind-room A (runs-from m 0) run_parts z u in
+    pub top_room : at + length (run_store_words m A) ≤ length o → top ≤ i → p + 6 ≤ length o₂
+    top_room z h =
+        let rest : p₁ + length (runs_from m 0) ≤ length o₁ = behind_room A (runs_from m 0) run_parts z u in
         omega (arith, (top_onward D t h).place, D.long, rest)
 
     pub run_done : {o₃ : List ℕ} {p₂ : ℕ} → top ≤ i → Wrote o₂ o₃ p p₂ (run_top m.atom (m.register + top)) → Wrote o o₃ at p₂ (run_store_words m A)
@@ -206,8 +206,8 @@ module _ (q : ℕ) (A : List ℕ) (at : ℕ) {x y : SeqTerm} (e : x ≡ y) where
   pub stores_in : {o o' : List ℕ} {p : ℕ} → Wrote o o' at p (term_store_words q y A) → Wrote o o' at p (term_store_words q x A)
   stores_in w = rw e w
 
-  pub stores-room : {ws : List ℕ} {n : ℕ} → term_store_words q y A ≡ ws → at + length (term_store_words q x A) ≤ n → at + length ws ≤ n
-  stores-room f h = same_room at (ap (λ (z : SeqTerm). term_store_words q z A) e ∙ f) h
+  pub stores_room : {ws : List ℕ} {n : ℕ} → term_store_words q y A ≡ ws → at + length (term_store_words q x A) ≤ n → at + length ws ≤ n
+  stores_room f h = same_room at (ap (λ (z : SeqTerm). term_store_words q z A) e ∙ f) h
 
 module _ {x y : SeqTerm} (e : x ≡ y) {W : List ℕ} {a : Kept} {k r b c q : ℕ} (R : Ready W a k r) (f : term_atom y ≡ b) (T : TermFits q x) where
   pub starts : term_registers y ≡ at_least_one c → Started W a k r (machine b c q) (c - 1)

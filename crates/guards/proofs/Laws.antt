@@ -27,8 +27,8 @@ use Rattle.expand.specs.ByNumber.{alternatives_of, copies_of, nth, is_copies, co
 use Rattle.outline.specs.Outline.{guard_flag, count_in, bare_in, flag_in}
 use Rattle.outline.proofs.ByWords.{well_formed}
 use Rattle.outline.proofs.Readers.{flag_known}
-use Rattle.expand.proofs.Index.{nth-copies, copies-index}
-use Rattle.expand.proofs.ByKind.{some_alternatives, single-alternative}
+use Rattle.expand.proofs.Index.{nth_copies, copies_index}
+use Rattle.expand.proofs.ByKind.{some_alternatives, single_alternative}
 use Rattle.expand.proofs.Numbers.{Copied, nth_of_delay, nth_of_throughout, nth_of_block, copy_counted, same_alternatives}
 use Rattle.guards.specs.GuardText.{guard_expression, guard_text, closed_guard, joining}
 
@@ -48,8 +48,8 @@ unfolding joining
 join_both e f = pick_false _ _ (ne_eqb _ _ e) ∙ pick_false _ _ (ne_eqb _ _ f)
 
 -- The words that join two guards, as the code puts them.
-pub none-joined : (o : List ℕ) {from middle : ℕ} (end : ℕ) → from ≡ middle → Wrote o o end end (joining from middle end)
-none-joined o end e = same_words (sym (join_none end e)) (nothing_written o end)
+pub none_joined : (o : List ℕ) {from middle : ℕ} (end : ℕ) → from ≡ middle → Wrote o o end end (joining from middle end)
+none_joined o end e = same_words (sym (join_none end e)) (nothing_written o end)
 
 pub first_joined : (o : List ℕ) {from middle end : ℕ} → (from ≡ middle → ⊥) → middle ≡ end
     → Wrote o o end end (joining from middle end)
@@ -81,21 +81,21 @@ first_shorter g h =
     omega (arith, ap length (text_of_two g h 0 m z (omega arith) refl), length-append (guard_expression g) (guard_expression h ++ joining 0 m z))
 
 module _ (y g h : Guard) (e : y ≡ and_opt g h) (o : List ℕ) (at : ℕ) (room : at + length (guard_expression y) ≤ length o) where
-  joined-room : at + length (guard_expression (and_opt g h)) ≤ length o
-  joined-room = rw e at room
+  joined_room : at + length (guard_expression (and_opt g h)) ≤ length o
+  joined_room = rw e at room
 
   first_guard_room : at + length (guard_expression g) ≤ length o
   first_guard_room =
       let m = at + length (guard_expression g) in
       let z = m + length (guard_expression h) in
       let l = ap length (text_of_two g h at m z refl refl) ∙ length-append (guard_expression g) (guard_expression h ++ joining at m z) in
-      omega (arith, joined-room)
+      omega (arith, joined_room)
 
   module _ {o₁ : List ℕ} {middle : ℕ} (x : Wrote o o₁ at middle (guard_expression g)) where
     rooms : (end : ℕ) → end ≡ middle + length (guard_expression h)
         → at + (length (guard_expression g) + (length (guard_expression h) + length (joining at middle end))) ≤ length o
     rooms end q =
-        rw (← length-append (guard_expression h), ← length-append (guard_expression g), ← text_of_two g h at middle end x.ends q) joined-room
+        rw (← length-append (guard_expression h), ← length-append (guard_expression g), ← text_of_two g h at middle end x.ends q) joined_room
 
     second_guard_room : middle + length (guard_expression h) ≤ length o₁
     second_guard_room = omega (arith, rooms (middle + length (guard_expression h)) refl, x.ends, still_long x)
@@ -112,11 +112,11 @@ module _ (y g h : Guard) (e : y ≡ and_opt g h) (o : List ℕ) (at : ℕ) (room
 -- ---- as the code meets them
 
 -- The words that `guard_text` and `repeated_guard` put.
-abbrev node-guard : List ℕ → ℕ → ℕ → List ℕ
-node-guard t n i = guard_text (alternatives_of t n) i
+abbrev node_guard : List ℕ → ℕ → ℕ → List ℕ
+node_guard t n i = guard_text (alternatives_of t n) i
 
-abbrev copies-guard : List ℕ → ℕ → ℕ → ℕ → List ℕ
-copies-guard t n k i = guard_text (copies_of (alternatives_of t n) k) i
+abbrev copies_guard : List ℕ → ℕ → ℕ → ℕ → List ℕ
+copies_guard t n k i = guard_text (copies_of (alternatives_of t n) k) i
 
 -- Where no alternative has a guard, there is nothing to put.
 no_guard : (alts : List SeqAlt) (i : ℕ) → guarded alts ≡ false → guard_text alts i ≡ []
@@ -133,10 +133,10 @@ no_guard (y ∷ ys) (suc i) e = no_guard ys i (by (has_guard y.guard) e)
     by true p = absurd (false_is_not_true (sym p))
     by false p = p
 
-pub unguarded-text : {t q : List ℕ} {n i f : ℕ} (o : List ℕ) (at : ℕ) → OutlinedNumber t q n i → f ≡ flag_in q n → f ≡ 0
-    → Wrote o o at at (node-guard t n i)
+pub unguarded_text : {t q : List ℕ} {n i f : ℕ} (o : List ℕ) (at : ℕ) → OutlinedNumber t q n i → f ≡ flag_in q n → f ≡ 0
+    → Wrote o o at at (node_guard t n i)
 unfolding guard_flag alternatives_of pick
-unguarded-text {t} {q} {n} {i} o at N e z =
+unguarded_text {t} {q} {n} {i} o at N e z =
     same_words (sym (no_guard (alternatives_of t n) i (by (guarded (expand (tree_at t n))) (sym (flag_known N.numbered.node N.known) ∙ sym e ∙ z)))) (nothing_written o at)
   where
     by : (g : Bool) → ◌≡◌ {A = ℕ} (pick g 1 0) 0 → g ≡ false
@@ -145,13 +145,13 @@ unguarded-text {t} {q} {n} {i} o at N e z =
 
 -- [*1], passed at one stroke
 module _ {t q : List ℕ} {n i m : ℕ} (o : List ℕ) (at : ℕ) (N : OutlinedNumber t q n i) (e : m ≡ bare_in q n) where
-  pub bare_guard_room : at + length (node-guard t n i) ≤ length o → at + length (node-guard t m i) ≤ length o
+  pub bare_guard_room : at + length (node_guard t n i) ≤ length o → at + length (node_guard t m i) ≤ length o
   bare_guard_room room = rw (same_alternatives N e) room
 
-  pub bare-guarded : {o₁ : List ℕ} {z : ℕ} → Wrote o o₁ at z (node-guard t m i) → Wrote o o₁ at z (node-guard t n i)
-  bare-guarded x = rw (same_alternatives N e) at x
+  pub bare_guarded : {o₁ : List ℕ} {z : ℕ} → Wrote o o₁ at z (node_guard t m i) → Wrote o o₁ at z (node_guard t n i)
+  bare_guarded x = rw (same_alternatives N e) at x
 
-module _ {t q : List ℕ} {n i : ℕ} {v : Node} (o : List ℕ) (at : ℕ) (N : OutlinedNumber t q n i) (room : at + length (node-guard t n i) ≤ length o) (w : v ≡ node_at t n) where
+module _ {t q : List ℕ} {n i : ℕ} {v : Node} (o : List ℕ) (at : ℕ) (N : OutlinedNumber t q n i) (room : at + length (node_guard t n i) ≤ length o) (w : v ≡ node_at t n) where
   abbrev own : Guard
   own = (nth (alternatives_of t n) i).guard
 
@@ -163,27 +163,27 @@ module _ {t q : List ℕ} {n i : ℕ} {v : Node} (o : List ℕ) (at : ℕ) (N : 
     abbrev right : Guard
     right = (nth (alternatives_of t v.q) s.right).guard
 
-    delay-guard : own ≡ and_opt left right
-    delay-guard = ap (λ (y : SeqAlt). y.guard) (nth_of_delay N w k c)
+    delay_guard : own ≡ and_opt left right
+    delay_guard = ap (λ (y : SeqAlt). y.guard) (nth_of_delay N w k c)
 
-    pub left-room : at + length (node-guard t v.p s.left) ≤ length o
+    pub left_room : at + length (node_guard t v.p s.left) ≤ length o
     unfolding guard_text
-    left-room = first_guard_room own left right delay-guard o at room
+    left_room = first_guard_room own left right delay_guard o at room
 
-    module _ {o₁ : List ℕ} {middle : ℕ} (x : Wrote o o₁ at middle (node-guard t v.p s.left)) where
-      pub right-room : middle + length (node-guard t v.q s.right) ≤ length o₁
+    module _ {o₁ : List ℕ} {middle : ℕ} (x : Wrote o o₁ at middle (node_guard t v.p s.left)) where
+      pub right_room : middle + length (node_guard t v.q s.right) ≤ length o₁
       unfolding guard_text
-      right-room = second_guard_room own left right delay-guard o at room x
+      right_room = second_guard_room own left right delay_guard o at room x
 
-      module _ {o₂ : List ℕ} {end : ℕ} (y : Wrote o₁ o₂ middle end (node-guard t v.q s.right)) where
+      module _ {o₂ : List ℕ} {end : ℕ} (y : Wrote o₁ o₂ middle end (node_guard t v.q s.right)) where
         pub delay_join_room : end + length (joining at middle end) ≤ length o₂
         unfolding guard_text
-        delay_join_room = join_room own left right delay-guard o at room x y
+        delay_join_room = join_room own left right delay_guard o at room x y
 
-        pub delay-guarded : {o₃ : List ℕ} {next : ℕ} → Wrote o₂ o₃ end next (joining at middle end)
-            → Wrote o o₃ at next (node-guard t n i)
+        pub delay_guarded : {o₃ : List ℕ} {next : ℕ} → Wrote o₂ o₃ end next (joining at middle end)
+            → Wrote o o₃ at next (node_guard t n i)
         unfolding guard_text
-        delay-guarded z = guards_joined own left right delay-guard o at room x y z
+        delay_guarded z = guards_joined own left right delay_guard o at room x y z
 
   -- The guard of a throughout's alternative joins that of its operand's and the condition.
   module _ (k : v.kind ≡ 6) where
@@ -193,50 +193,50 @@ module _ {t q : List ℕ} {n i : ℕ} {v : Node} (o : List ℕ) (at : ℕ) (N : 
     abbrev condition : Guard
     condition = guard (any (a· v.p))
 
-    throughout-guard : own ≡ and_opt under condition
-    throughout-guard = ap (λ (y : SeqAlt). y.guard) (nth_of_throughout N w k)
+    throughout_guard : own ≡ and_opt under condition
+    throughout_guard = ap (λ (y : SeqAlt). y.guard) (nth_of_throughout N w k)
 
     pub condition_small : v.p < 65536
     condition_small = (well_formed N.numbered.node.formed N.numbered.node.inside w).condition_small k
 
-    pub under-room : at + length (node-guard t v.q i) ≤ length o
+    pub under_room : at + length (node_guard t v.q i) ≤ length o
     unfolding guard_text
-    under-room = first_guard_room own under condition throughout-guard o at room
+    under_room = first_guard_room own under condition throughout_guard o at room
 
-    module _ {o₁ : List ℕ} {middle : ℕ} (x : Wrote o o₁ at middle (node-guard t v.q i)) where
+    module _ {o₁ : List ℕ} {middle : ℕ} (x : Wrote o o₁ at middle (node_guard t v.q i)) where
       pub condition_room : middle + 2 ≤ length o₁
       unfolding guard_text
-      condition_room = second_guard_room own under condition throughout-guard o at room x
+      condition_room = second_guard_room own under condition throughout_guard o at room x
 
       module _ {o₂ : List ℕ} {end : ℕ} (y : Wrote o₁ o₂ middle end (word 1 v.p ∷ word 5 0 ∷ [])) where
         pub throughout_join_room : end + length (joining at middle end) ≤ length o₂
         unfolding guard_text
-        throughout_join_room = join_room own under condition throughout-guard o at room x y
+        throughout_join_room = join_room own under condition throughout_guard o at room x y
 
-        pub throughout-guarded : {o₃ : List ℕ} {next : ℕ} → Wrote o₂ o₃ end next (joining at middle end)
-            → Wrote o o₃ at next (node-guard t n i)
+        pub throughout_guarded : {o₃ : List ℕ} {next : ℕ} → Wrote o₂ o₃ end next (joining at middle end)
+            → Wrote o o₃ at next (node_guard t n i)
         unfolding guard_text
-        throughout-guarded z = guards_joined own under condition throughout-guard o at room x y z
+        throughout_guarded z = guards_joined own under condition throughout_guard o at room x y z
 
   -- The guard of a repetition's alternative is that of its block of copies.
   module _ (R : Copied v i) {b : Block} (g : b ≡ copies_block q v i) where
-    block_guard : node-guard t n i ≡ copies-guard t v.p b.later b.index
+    block_guard : node_guard t n i ≡ copies_guard t v.p b.later b.index
     unfolding guard_text
     block_guard = ap (λ (y : SeqAlt). guard_expression y.guard) (nth_of_block N w R g)
 
-    pub block_room : at + length (copies-guard t v.p b.later b.index) ≤ length o
+    pub block_room : at + length (copies_guard t v.p b.later b.index) ≤ length o
     block_room = rw block_guard at room
 
-    pub block_guarded : {o₁ : List ℕ} {z : ℕ} → Wrote o o₁ at z (copies-guard t v.p b.later b.index)
-        → Wrote o o₁ at z (node-guard t n i)
+    pub block_guarded : {o₁ : List ℕ} {z : ℕ} → Wrote o o₁ at z (copies_guard t v.p b.later b.index)
+        → Wrote o o₁ at z (node_guard t n i)
     block_guarded x = same_words (sym block_guard) x
 
   -- An alternative that is one term has no guard to put.
-  pub single-unguarded : {b : Bool} → (v.kind ≡ 2 → ⊥) → (v.kind ≡ 6 → ⊥) → b ≡ is_copies v i → b ≡ false
-      → Wrote o o at at (node-guard t n i)
+  pub single_unguarded : {b : Bool} → (v.kind ≡ 2 → ⊥) → (v.kind ≡ 6 → ⊥) → b ≡ is_copies v i → b ≡ false
+      → Wrote o o at at (node_guard t n i)
   unfolding guard_text
-  single-unguarded d g c x =
-      same_words (ap (λ (y : SeqAlt). guard_expression y.guard) (sym (single-alternative N.numbered.node w d g i N.numbered.index c x))) (nothing_written o at)
+  single_unguarded d g c x =
+      same_words (ap (λ (y : SeqAlt). guard_expression y.guard) (sym (single_alternative N.numbered.node w d g i N.numbered.index c x))) (nothing_written o at)
 
 -- ---- several copies, each joined to those before it
 
@@ -250,11 +250,11 @@ joined_on t n i g zero = g
 joined_on t n i g (suc later) = joined_on t n i (and_opt g (copy_guard t n i later)) later
 
 -- The guard of the last copy is joined to those of the number that is left without it.
-last-joined : (t : List ℕ) (n i : ℕ) (g : Guard) (later : ℕ)
+last_joined : (t : List ℕ) (n i : ℕ) (g : Guard) (later : ℕ)
     → let a = length (alternatives_of t n) in joined_on t n i g (suc later) ≡ and_opt (joined_on t n (i / a) g later) (nth (alternatives_of t n) (i % a)).guard
 unfolding joined_on copy_number
-last-joined t n i g zero = refl
-last-joined t n i g (suc later) = last-joined t n i (and_opt g (copy_guard t n i (suc later))) later
+last_joined t n i g zero = refl
+last_joined t n i g (suc later) = last_joined t n i (and_opt g (copy_guard t n i (suc later))) later
 
 -- The guards of all copies, joined, are the guard of the copies' alternative.
 all_joined : (t : List ℕ) (n k i : ℕ) → 0 < length (alternatives_of t n) → i < length (copies_of (alternatives_of t n) k)
@@ -264,9 +264,9 @@ all_joined t n zero i p q = ap (λ (z : ℕ). (nth (alternatives_of t n) z).guar
 all_joined t n (suc k) i p q =
     let base = alternatives_of t n in
     let a = length base in
-    ap (λ (y : SeqAlt). y.guard) (nth-copies base k i p q)
-    ∙ ap (λ (g : Guard). and_opt g (nth base (i % a)).guard) (all_joined t n k (i / a) p (copies-index base k i p q))
-    ∙ sym (last-joined t n i unguarded (suc k))
+    ap (λ (y : SeqAlt). y.guard) (nth_copies base k i p q)
+    ∙ ap (λ (g : Guard). and_opt g (nth base (i % a)).guard) (all_joined t n k (i / a) p (copies_index base k i p q))
+    ∙ sym (last_joined t n i unguarded (suc k))
 
 -- What is joined to a guard makes it no shorter.
 no_shorter : (t : List ℕ) (n i : ℕ) (g : Guard) (later : ℕ) → length (guard_expression g) ≤ length (guard_expression (joined_on t n i g later))
@@ -283,8 +283,8 @@ pub record Joining (t : List ℕ) (n k i : ℕ) (o : List ℕ) (at : ℕ) (o' : 
   pub stands : Wrote o o' at middle (guard_expression so_far)
   pub rest : (nth (copies_of (alternatives_of t n) k) i).guard ≡ joined_on t n i so_far left
 
-pub joining-begins : {t : List ℕ} {n k i : ℕ} (o : List ℕ) (at : ℕ) → NumberedCopies t n k i → Joining t n k i o at o at (k + 1)
-joining-begins {t} {n} {k} {i} o at C = record {
+pub joining_begins : {t : List ℕ} {n k i : ℕ} (o : List ℕ) (at : ℕ) → NumberedCopies t n k i → Joining t n k i o at o at (k + 1)
+joining_begins {t} {n} {k} {i} o at C = record {
   few = omega arith;
   long = refl;
   so_far = unguarded;
@@ -299,23 +299,23 @@ module _ {t q : List ℕ} {n k i : ℕ} {o : List ℕ} {at : ℕ} {o' : List ℕ
   next_copy = (nth (alternatives_of t n) d).guard
 
   -- One copy more is joined.
-  one-joined : (nth (copies_of (alternatives_of t n) k) i).guard ≡ joined_on t n i (and_opt J.so_far next_copy) (left - 1)
+  one_joined : (nth (copies_of (alternatives_of t n) k) i).guard ≡ joined_on t n i (and_opt J.so_far next_copy) (left - 1)
   unfolding joined_on
-  one-joined =
+  one_joined =
       let s : left ≡ suc (left - 1) = omega arith in
       J.rest ∙ ap (joined_on t n i J.so_far) s ∙ rw (copy_counted C (left - 1) e) refl
 
-  module _ (room : at + length (copies-guard t n k i) ≤ length o) where
+  module _ (room : at + length (copies_guard t n k i) ≤ length o) where
     all_room : at + length (guard_expression (and_opt J.so_far next_copy)) ≤ length o
     unfolding guard_text
     all_room =
-        omega (arith, room, ap (λ (g : Guard). length (guard_expression g)) one-joined, no_shorter t n i (and_opt J.so_far next_copy) (left - 1))
+        omega (arith, room, ap (λ (g : Guard). length (guard_expression g)) one_joined, no_shorter t n i (and_opt J.so_far next_copy) (left - 1))
 
-    pub copy_room : middle + length (node-guard t n d) ≤ length o'
+    pub copy_room : middle + length (node_guard t n d) ≤ length o'
     unfolding guard_text
     copy_room = second_guard_room (and_opt J.so_far next_copy) J.so_far next_copy refl o at all_room J.stands
 
-    module _ {o'' : List ℕ} {end : ℕ} (x : Wrote o' o'' middle end (node-guard t n d)) where
+    module _ {o'' : List ℕ} {end : ℕ} (x : Wrote o' o'' middle end (node_guard t n d)) where
       pub copy_join_room : end + length (joining at middle end) ≤ length o''
       unfolding guard_text
       copy_join_room = join_room (and_opt J.so_far next_copy) J.so_far next_copy refl o at all_room J.stands x
@@ -324,12 +324,12 @@ module _ {t q : List ℕ} {n k i : ℕ} {o : List ℕ} {at : ℕ} {o' : List ℕ
       unfolding guard_text
       joining_on y =
           let z = guards_joined (and_opt J.so_far next_copy) J.so_far next_copy refl o at all_room J.stands x y in
-          record { few = omega (arith, J.few); long = still_long z; so_far = and_opt J.so_far next_copy; stands = z; rest = one-joined }
+          record { few = omega (arith, J.few); long = still_long z; so_far = and_opt J.so_far next_copy; stands = z; rest = one_joined }
 
-pub joining-ends : {t : List ℕ} {n k i : ℕ} {o : List ℕ} {at : ℕ} {o' : List ℕ} {middle left : ℕ} → Joining t n k i o at o' middle left → left ≤ 0
-    → Wrote o o' at middle (copies-guard t n k i)
+pub joining_ends : {t : List ℕ} {n k i : ℕ} {o : List ℕ} {at : ℕ} {o' : List ℕ} {middle left : ℕ} → Joining t n k i o at o' middle left → left ≤ 0
+    → Wrote o o' at middle (copies_guard t n k i)
 unfolding guard_text joined_on
-joining-ends {left = left} J m =
+joining_ends {left = left} J m =
     let z : left ≡ 0 = omega arith in
     same_words (ap guard_expression (sym (rw z at J.rest))) J.stands
 
@@ -353,9 +353,9 @@ module _ (alts : List SeqAlt) (i : ℕ) (o : List ℕ) (at : ℕ) (room : at + l
   abbrev g : Guard
   g = (nth alts i).guard
 
-  pub text-room : at + length (guard_text alts i) ≤ length o
+  pub text_room : at + length (guard_text alts i) ≤ length o
   unfolding guard_text closed_guard
-  text-room = omega (arith, room, text_shorter g)
+  text_room = omega (arith, room, text_shorter g)
 
   module _ {o₁ : List ℕ} {end : ℕ} (x : Wrote o o₁ at end (guard_text alts i)) where
     pub none_to_close : at ≡ end → Wrote o o₁ at end (closed_guard alts i)
@@ -382,4 +382,4 @@ condition_put {o} {at = at} c x y = last (go (word 1 c ∷ []) (word 5 0 ∷ [])
 -- Where the outline tells of no guard, nothing is to be closed.
 pub nothing_closed : {t q : List ℕ} {n i f : ℕ} (o : List ℕ) (at : ℕ) → OutlinedNumber t q n i → at + length (closed_guard (alternatives_of t n) i) ≤ length o
     → f ≡ flag_in q n → f ≡ 0 → Wrote o o at at (closed_guard (alternatives_of t n) i)
-nothing_closed {t} {q} {n} {i} o at N room e z = none_to_close (alternatives_of t n) i o at room (unguarded-text o at N e z) refl
+nothing_closed {t} {q} {n} {i} o at N room e z = none_to_close (alternatives_of t n) i o at room (unguarded_text o at N e z) refl

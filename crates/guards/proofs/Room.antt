@@ -12,7 +12,7 @@ use Rattle.meaning.specs.Alternative.{Guard, unguarded, guard, and_opt, SeqAlt, 
 use Rattle.meaning.specs.Refusals.{guard_atoms}
 use Rattle.meaning.proofs.Counting.{guard_atoms_and}
 use Rattle.expand.specs.ByNumber.{alternatives_of, nth, Numbered}
-use Rattle.expand.proofs.Every.{Inherited, each_expanded, each-nth}
+use Rattle.expand.proofs.Every.{Inherited, each_expanded, each_nth}
 use Rattle.expand.proofs.Room.{size_within_room}
 use Rattle.term.specs.Guards.{guard_words}
 use Rattle.guards.specs.GuardText.{closed_guard}
@@ -41,7 +41,7 @@ tripled = record {
 
 pub length_of_guard : (s : Seq) (i : ℕ) → length (closed_guard (expand s) i) ≡ 3 * guard_atoms (nth (expand s) i).guard
 unfolding closed_guard
-length_of_guard s i = each-nth tripled (expand s) i (each_expanded tripled s)
+length_of_guard s i = each_nth tripled (expand s) i (each_expanded tripled s)
 
 -- The guard lies in the second half of 16 words an entry.
 pub guard_within_room : (t : List ℕ) (n i : ℕ) (N : Numbered t n i)

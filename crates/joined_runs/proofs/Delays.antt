@@ -12,12 +12,12 @@ use Rattle.runs.proofs.Laws.{gains_as, gains_then, in_inside, in_gained_blank, B
 use Rattle.joined_runs.specs.Joined.{Ahead, Later, Overlapped, Delayed}
 
 -- The first n bytes of a local row that has them are n bytes.
-pub lent-long : (n : ℕ) (row : List ℕ) → n ≤ length row → n ≡ length (take n row)
-lent-long n row h = sym (length-take-le n row h)
+pub lent_long : (n : ℕ) (row : List ℕ) → n ≤ length row → n ≡ length (take n row)
+lent_long n row h = sym (length-take-le n row h)
 
 -- The first n bytes of a local row are never more than n.
-pub lent-short : (n : ℕ) (row : List ℕ) → length (take n row) ≤ n
-lent-short n row = omega (arith, length-take n row)
+pub lent_short : (n : ℕ) (row : List ℕ) → length (take n row) ≤ n
+lent_short n row = omega (arith, length-take n row)
 
 -- Put back with the ends that they gained, they leave the row long enough.
 pub lent_fits : {P : ℕ → Type 0} {n : ℕ} {starts : List ℕ} (row rest : List ℕ) → n ≤ length row → Gains (take n row) starts P

@@ -107,11 +107,11 @@ lowering_ends w l =
     lowest_as (λ j h. (λ (k, p, q, e). (k, q, e), λ (k, q, e). (k, omega (arith, e.0), q, e))) w.lowest
 
 -- A run of the first table lies in the run of the second that ends at j where the lowest end is at most j.
-pub ends-inside : (tables : List ℕ) (one two i : ℕ) {end : ℕ} {before after : List ℕ}
+pub ends_inside : (tables : List ℕ) (one two i : ℕ) {end : ℕ} {before after : List ℕ}
     → Lowest (EndsFrom tables one (length before) i) (length before) end
     → Gains before after (Added tables (two + i * length before) end)
     → Gains before after (Within tables one two (length before) i)
-ends-inside tables one two i {end} w g =
+ends_inside tables one two i {end} w g =
     gains_as
     (λ j l. (
       λ (p, e). let (k, q, o) = w.holds (omega arith) in (k, end, (omega (arith, o.0), l, e), q, p, o),

@@ -48,9 +48,9 @@ at_each f d (x ∷ xs) h t zero = both_left (f x) (every f xs) t
 at_each f d (x ∷ xs) h t (suc k) = at_each f d xs h (both_right (f x) (every f xs) t) k
 
 -- No operation leaves more than one value.
-leaves-one : (o : ℕ) → (row_of o).leaves ≤ 1
+leaves_one : (o : ℕ) → (row_of o).leaves ≤ 1
 unfolding row_of rows
-leaves-one o = leb→le _ _ (at_each (λ (r : Row). leb r.leaves 1) _ rows tt tt (o - 1))
+leaves_one o = leb→le _ _ (at_each (λ (r : Row). leb r.leaves 1) _ rows tt tt (o - 1))
 
 -- A run of equal rows in the table.
 rows_in : (k n : ℕ) (r : Row) (rest : List Row) → drop k rows ≡ replicate n r ++ rest → (o : ℕ) → k + 1 ≤ o → o ≤ k + n → row_of o ≡ r
@@ -100,7 +100,7 @@ module _ {r : Row} (w : ℕ) where
 
 -- A word raises the stack by one at most.
 pub height_rises_by_one : (h w : ℕ) → height h w ≤ h + 1
-height_rises_by_one h w = omega (arith, leaves-one (operation w))
+height_rises_by_one h w = omega (arith, leaves_one (operation w))
 
 -- A store counts one, another word none.
 pub store_counts_one : (w : ℕ) → pick (is_store w) 1 0 ≤ 1
@@ -131,17 +131,17 @@ fitting count k h w e =
 -- The arguments of a word that fits.
 module _ {count k h w : ℕ} (f : Fitting count k h w) where
   -- A register that is named passes both tests: it is below the count, and below the bound of register numbers.
-  register-fits : operation w ≡ 2 → (ltb (argument w) count ≡ true) × (ltb (argument w) 65536 ≡ true)
+  register_fits : operation w ≡ 2 → (ltb (argument w) count ≡ true) × (ltb (argument w) 65536 ≡ true)
   unfolding argument_fits
-  register-fits q =
+  register_fits q =
       let n : operation w ≡ 1 → ⊥ = λ z. omega arith in
       both_hold _ (sym (pick_false _ _ (ne_eqb _ _ n) ∙ pick_true _ _ (eq-eqb _ _ q)) ∙ f.suits)
 
-  pub register-below : operation w ≡ 2 → argument w < count
-  register-below q = ltb-true _ _ (register-fits q).0
+  pub register_below : operation w ≡ 2 → argument w < count
+  register_below q = ltb-true _ _ (register_fits q).0
 
   pub register_small : operation w ≡ 2 → argument w < 65536
-  register_small q = ltb-true _ _ (register-fits q).1
+  register_small q = ltb-true _ _ (register_fits q).1
 
 -- The needs of the leaves, where a callee's result stands for a definition.
 
@@ -150,8 +150,8 @@ pub store_more : {b : Bool} (n w : ℕ) → b ≡ is_store w → b ≡ true → 
 store_more n w e q = rw (pick_true {A = ℕ} 1 0 (sym e ∙ q)) refl
 
 -- A word that is no store counts as none more.
-pub store-none : {b : Bool} (n w : ℕ) → b ≡ is_store w → b ≡ false → n ≡ n + pick (is_store w) 1 0
-store-none n w e q = rw (pick_false {A = ℕ} 1 0 (sym e ∙ q)) (sym (add-zero n))
+pub store_none : {b : Bool} (n w : ℕ) → b ≡ is_store w → b ≡ false → n ≡ n + pick (is_store w) 1 0
+store_none n w e q = rw (pick_false {A = ℕ} 1 0 (sym e ∙ q)) (sym (add-zero n))
 
 -- What the row that `row` answers takes is there.
 pub takes_found : {v : Row} {h : ℕ} (o : ℕ) → v ≡ row_of o → (row_of o).takes ≤ h → v.takes ≤ h
@@ -208,9 +208,9 @@ module _ {ws : List ℕ} {d h p : ℕ} (g : Deepening ws d h p) (k : p < length 
   found_here = rw (drop_here ws p k) at g.found
 
   -- The word finds what it takes.
-  pub operand-found : OperandFound h (get_or ws p 0)
+  pub operand_found : OperandFound h (get_or ws p 0)
   unfolding OperandsFound
-  operand-found = found_here.0
+  operand_found = found_here.0
 
   -- A word more is counted, with the height after it.
   pub deepening_on : {n m : ℕ} → m ≡ height h (get_or ws p 0) → n ≡ max d m → Deepening ws n m (p + 1)
@@ -234,39 +234,39 @@ fits_else_faulty true place e = (refl, e)
 fits_else_faulty false place e = absurd (let z : ◌≡◌ {A = ℕ} 0 1 = cc in omega arith)
 
 -- Nothing stands behind the match.
-nothing-after : (place : ℕ) (ws : List ℕ) → after_match place ws ≡ Described → ws ≡ []
+nothing_after : (place : ℕ) (ws : List ℕ) → after_match place ws ≡ Described → ws ≡ []
 unfolding after_match
-nothing-after place [] e = refl
-nothing-after place (w ∷ ws) e = absurd (let z : ◌≡◌ {A = ℕ} 0 1 = cc in omega arith)
+nothing_after place [] e = refl
+nothing_after place (w ∷ ws) e = absurd (let z : ◌≡◌ {A = ℕ} 0 1 = cc in omega arith)
 
 -- What is known where the words from a place on are as described: the word fits; a match is the last; behind another word
 -- the rest is as described.
 module _ (count w : ℕ) (ws : List ℕ) (place k h : ℕ) (d : check_from count (w ∷ ws) place k h ≡ Described) where
   -- The word fits.
-  pub described-fits : Fitting count k h w
+  pub described_fits : Fitting count k h w
   unfolding check_from
-  described-fits = fitting count k h w (fits_else_faulty _ place d).0
+  described_fits = fitting count k h w (fits_else_faulty _ place d).0
 
   -- Behind a word that is not the match the rest is as described.
-  pub described-goes_on : (operation w ≡ 14 → ⊥) → check_from count ws (place + 1) (k + pick (is_store w) 1 0) (height h w) ≡ Described
+  pub described_goes_on : (operation w ≡ 14 → ⊥) → check_from count ws (place + 1) (k + pick (is_store w) 1 0) (height h w) ≡ Described
   unfolding check_from
-  described-goes_on o = sym (pick_false _ _ (ne_eqb _ _ o)) ∙ (fits_else_faulty _ place d).1
+  described_goes_on o = sym (pick_false _ _ (ne_eqb _ _ o)) ∙ (fits_else_faulty _ place d).1
 
   -- Behind the match there is nothing.
-  pub described-ends : operation w ≡ 14 → ws ≡ []
+  pub described_ends : operation w ≡ 14 → ws ≡ []
   unfolding check_from
-  described-ends o = nothing-after (place + 1) ws (sym (pick_true _ _ (eq-eqb _ _ o)) ∙ (fits_else_faulty _ place d).1)
+  described_ends o = nothing_after (place + 1) ws (sym (pick_true _ _ (eq-eqb _ _ o)) ∙ (fits_else_faulty _ place d).1)
 
 -- Every described listing can have its stack counted.
 operands_found_from : (count : ℕ) (ws : List ℕ) (place k h : ℕ) → check_from count ws place k h ≡ Described → OperandsFound h ws
 unfolding OperandsFound
 operands_found_from count [] place k h d = tt
 operands_found_from count (w ∷ ws) place k h d =
-    let f = described-fits count w ws place k h d in (
+    let f = described_fits count w ws place k h d in (
       f.operand,
       elim (dec_le 14 (operation w)) [
-        | yes o ↦ rw (described-ends count w ws place k h d (omega (arith, f.operand.last))) tt
-        | no o ↦ operands_found_from count ws (place + 1) (k + pick (is_store w) 1 0) (height h w) (described-goes_on count w ws place k h d λ e. omega arith)
+        | yes o ↦ rw (described_ends count w ws place k h d (omega (arith, f.operand.last))) tt
+        | no o ↦ operands_found_from count ws (place + 1) (k + pick (is_store w) 1 0) (height h w) (described_goes_on count w ws place k h d λ e. omega arith)
       ],
     )
 

@@ -11,7 +11,7 @@ use Rattle.words.proofs.Taken.{no_test}
 use Rattle.meaning.specs.Listing.{operation, argument, word, row_of, height, is_store}
 use Rattle.meaning.specs.Check.{argument_fits, operands_fit, word_fits}
 use Rattle.meaning.specs.declared.Row.{Row}
-use Rattle.meaning.proofs.Operations.{operation-is_store, below_9_is_no_store}
+use Rattle.meaning.proofs.Operations.{operation_is_store, below_9_is_no_store}
 use Rattle.listing.specs.Operands.{OperandFound}
 use Rattle.listing.specs.Step.{reach, tallied, noted, ended}
 use Rattle.listing.specs.declared.Tally.{Tally}
@@ -30,18 +30,18 @@ module _ {w : ℕ} where
   a_store_below h =
       elim (dec_le (word 14 0) w) [
         | yes m ↦ le-ltb w (word 14 0) m ∙ sym (pick_true _ _ (le-leb 9 (operation w) (omega arith)) ∙ lt-leb (operation w) 13 (omega arith))
-        | no m ↦ lt-ltb w (word 14 0) (omega arith) ∙ sym (operation-is_store w (omega arith) (omega arith))
+        | no m ↦ lt-ltb w (word 14 0) (omega arith) ∙ sym (operation_is_store w (omega arith) (omega arith))
       ]
 
 -- What a word reaches, by where it lies.
 module _ {w : ℕ} (o : ℕ) where
   -- A word of a lower operation reaches nothing.
-  pub below-reach : {first : ℕ} → first ≡ o * 16777216 → w < first → 0 ≡ reach o w
-  below-reach e l = sym (pick_false _ _ (ne_eqb (operation w) o (λ z. omega arith)))
+  pub below_reach : {first : ℕ} → first ≡ o * 16777216 → w < first → 0 ≡ reach o w
+  below_reach e l = sym (pick_false _ _ (ne_eqb (operation w) o (λ z. omega arith)))
 
   -- A word of the operation itself reaches behind its argument.
-  pub within-reach : {first : ℕ} → first ≡ o * 16777216 → first ≤ w → w < first + 16777216 → argument w + 1 ≡ reach o w
-  within-reach e h l = sym (pick_true _ _ (eq-eqb (operation w) o (omega arith)))
+  pub within_reach : {first : ℕ} → first ≡ o * 16777216 → first ≤ w → w < first + 16777216 → argument w + 1 ≡ reach o w
+  within_reach e h l = sym (pick_true _ _ (eq-eqb (operation w) o (omega arith)))
 
   -- A word of a higher operation reaches nothing.
   pub beyond_reach : {first : ℕ} → first ≡ o * 16777216 → first + 16777216 ≤ w → 0 ≡ reach o w
@@ -61,8 +61,8 @@ module _ {h w : ℕ} where
   name_found p q = record { known = omega arith; last = omega arith; found = rw (value_row (operation w) (omega arith) (omega arith)) (omega arith) }
 
   -- Operations 3 to 8 take what their row says.
-  pub plain-found : {v : Row} → word 3 0 ≤ w → w < word 9 0 → v ≡ row_of (operation w) → v.takes ≤ h → OperandFound h w
-  plain-found p q e f = record { known = omega arith; last = omega arith; found = rw (← e) f }
+  pub plain_found : {v : Row} → word 3 0 ≤ w → w < word 9 0 → v ≡ row_of (operation w) → v.takes ≤ h → OperandFound h w
+  plain_found p q e f = record { known = omega arith; last = omega arith; found = rw (← e) f }
 
   -- A store or the match takes the one value.
   end_found : 9 ≤ operation w → operation w ≤ 14 → h ≡ 1 → OperandFound h w
@@ -75,33 +75,33 @@ module _ {h w : ℕ} where
 -- The argument of a word of each kind.
 module _ (count k w : ℕ) where
   -- The argument of an atom's word is an atom number.
-  atom-argument : operation w ≡ 1 → argument_fits count k w ≡ ltb (argument w) 65536
+  atom_argument : operation w ≡ 1 → argument_fits count k w ≡ ltb (argument w) 65536
   unfolding argument_fits
-  atom-argument q = pick_true _ _ (eq-eqb _ _ q)
+  atom_argument q = pick_true _ _ (eq-eqb _ _ q)
 
   -- The argument of a register's word is a register number, below the count.
-  register-argument : operation w ≡ 2 → argument_fits count k w ≡ pick (ltb (argument w) count) (ltb (argument w) 65536) false
+  register_argument : operation w ≡ 2 → argument_fits count k w ≡ pick (ltb (argument w) count) (ltb (argument w) 65536) false
   unfolding argument_fits
-  register-argument q = pick_false _ _ (ne_eqb (operation w) 1 (λ z. omega arith)) ∙ pick_true _ _ (eq-eqb _ _ q)
+  register_argument q = pick_false _ _ (ne_eqb (operation w) 1 (λ z. omega arith)) ∙ pick_true _ _ (eq-eqb _ _ q)
 
   -- An operation from 3 on is a store, or has no argument.
-  later-argument : 3 ≤ operation w
+  later_argument : 3 ≤ operation w
       → argument_fits count k w ≡ pick (is_store w) (pick (eqb (argument w) k) (ltb (argument w) 65536) false) (eqb (argument w) 0)
   unfolding argument_fits
-  later-argument h = pick_false _ _ (ne_eqb (operation w) 1 (λ z. omega arith)) ∙ pick_false _ _ (ne_eqb (operation w) 2 (λ z. omega arith))
+  later_argument h = pick_false _ _ (ne_eqb (operation w) 1 (λ z. omega arith)) ∙ pick_false _ _ (ne_eqb (operation w) 2 (λ z. omega arith))
 
   -- Operations 3 to 8 have no argument.
-  plain-argument : 3 ≤ operation w → operation w < 9 → argument_fits count k w ≡ eqb (argument w) 0
-  plain-argument h l = later-argument h ∙ pick_false _ _ (below_9_is_no_store w l)
+  plain_argument : 3 ≤ operation w → operation w < 9 → argument_fits count k w ≡ eqb (argument w) 0
+  plain_argument h l = later_argument h ∙ pick_false _ _ (below_9_is_no_store w l)
 
   -- A store has the number of the stores before it.
-  store-argument : 9 ≤ operation w → operation w ≤ 13 → argument_fits count k w ≡ pick (eqb (argument w) k) (ltb (argument w) 65536) false
-  store-argument h l = later-argument (omega arith) ∙ pick_true _ _ (operation-is_store w h l)
+  store_argument : 9 ≤ operation w → operation w ≤ 13 → argument_fits count k w ≡ pick (eqb (argument w) k) (ltb (argument w) 65536) false
+  store_argument h l = later_argument (omega arith) ∙ pick_true _ _ (operation_is_store w h l)
 
   -- The match has no argument.
   match_argument : operation w ≡ 14 → argument_fits count k w ≡ eqb (argument w) 0
   unfolding is_store
-  match_argument o = later-argument (omega arith) ∙ pick_false _ _ (pick_true _ _ (le-leb 9 (operation w) (omega arith)) ∙ lt-leb (operation w) 13 (omega arith))
+  match_argument o = later_argument (omega arith) ∙ pick_false _ _ (pick_true _ _ (le-leb 9 (operation w) (omega arith)) ∙ lt-leb (operation w) 13 (omega arith))
 
 -- Whether a word fits, by its argument and its operands.
 module _ (count k h w : ℕ) where
@@ -144,9 +144,9 @@ module _ {h : ℕ} (w : ℕ) where
   too_few_operands l = pick_true _ _ (lt-ltb _ _ l)
 
   -- A store or the match leaves nothing behind it.
-  one-operand : OperandFound h w → 9 ≤ operation w → operands_fit h w ≡ eqb h 1
+  one_operand : OperandFound h w → 9 ≤ operation w → operands_fit h w ≡ eqb h 1
   unfolding operands_fit
-  one-operand f l = pick_false _ _ (le-ltb _ _ f.found) ∙ pick_true _ _ (le-leb _ _ l)
+  one_operand f l = pick_false _ _ (le-ltb _ _ f.found) ∙ pick_true _ _ (le-leb _ _ l)
 
   -- A store or the match does not stand at another height than 1.
   not_alone : 9 ≤ operation w → (h ≡ 1 → ⊥) → operands_fit h w ≡ false
@@ -176,41 +176,41 @@ module _ (count : ℕ) (s : Tally) (w : ℕ) where
       unfit
       (wrong_argument _ _ _ w
       (elim (dec_le 2 (operation w)) [
-        | yes m ↦ register-argument _ _ w (omega arith) ∙ rw large (no_test (ltb (argument w) count))
-        | no m ↦ atom-argument _ _ w (omega arith) ∙ large
+        | yes m ↦ register_argument _ _ w (omega arith) ∙ rw large (no_test (ltb (argument w) count))
+        | no m ↦ atom_argument _ _ w (omega arith) ∙ large
       ]))
 
   -- An atom below the bound is noted.
-  pub atom-noted : {t : Tally} → t ≡ tallied s w → word 1 0 ≤ w → w < word 2 0 → argument w < 65536 → Fits t ≡ noted count s w
-  atom-noted e p q l =
+  pub atom_noted : {t : Tally} → t ≡ tallied s w → word 1 0 ≤ w → w < word 2 0 → argument w < 65536 → Fits t ≡ noted count s w
+  atom_noted e p q l =
       let f = name_found p (omega arith) in
-      fits e (omega arith) (both_fit _ _ _ w f (atom-argument _ _ w (omega arith) ∙ lt-ltb _ _ l) (enough_operands w f (omega arith)))
+      fits e (omega arith) (both_fit _ _ _ w f (atom_argument _ _ w (omega arith) ∙ lt-ltb _ _ l) (enough_operands w f (omega arith)))
 
   -- A register past the count is not noted.
   pub register_too_large : word 2 0 ≤ w → w < word 3 0 → count ≤ argument w → Unfit ≡ noted count s w
-  register_too_large p q l = unfit (wrong_argument _ _ _ w (register-argument _ _ w (omega arith) ∙ pick_false _ _ (le-ltb _ _ l)))
+  register_too_large p q l = unfit (wrong_argument _ _ _ w (register_argument _ _ w (omega arith) ∙ pick_false _ _ (le-ltb _ _ l)))
 
   -- A register below the bound and the count is noted.
-  pub register-noted : {t : Tally} → t ≡ tallied s w → word 2 0 ≤ w → w < word 3 0 → argument w < 65536 → argument w < count → Fits t ≡ noted count s w
-  register-noted e p q l m =
+  pub register_noted : {t : Tally} → t ≡ tallied s w → word 2 0 ≤ w → w < word 3 0 → argument w < 65536 → argument w < count → Fits t ≡ noted count s w
+  register_noted e p q l m =
       let f = name_found (omega arith) q in
       fits e (omega arith)
-      (both_fit _ _ _ w f (register-argument _ _ w (omega arith) ∙ pick_true _ _ (lt-ltb _ _ m) ∙ lt-ltb _ _ l) (enough_operands w f (omega arith)))
+      (both_fit _ _ _ w f (register_argument _ _ w (omega arith) ∙ pick_true _ _ (lt-ltb _ _ m) ∙ lt-ltb _ _ l) (enough_operands w f (omega arith)))
 
   -- A word of the operations 3 to 8 with an argument is not noted.
   pub filled_argument : word 3 0 ≤ w → w < word 9 0 → (argument w ≡ 0 → ⊥) → Unfit ≡ noted count s w
-  filled_argument p q n = unfit (wrong_argument _ _ _ w (plain-argument _ _ w (omega arith) (omega arith) ∙ ne_eqb _ _ n))
+  filled_argument p q n = unfit (wrong_argument _ _ _ w (plain_argument _ _ w (omega arith) (omega arith) ∙ ne_eqb _ _ n))
 
   -- An operation that does not find what it takes is not noted.
   pub plain_unfit : {v : Row} → v ≡ row_of (operation w) → s.height < v.takes → Unfit ≡ noted count s w
   plain_unfit e l = unfit (wrong_operands _ _ _ w (too_few_operands w (rw (← e) l)))
 
   -- A word of the operations 3 to 8 that finds what it takes is noted.
-  pub plain-noted : {t : Tally} {v : Row} → t ≡ tallied s w → word 3 0 ≤ w → w < word 9 0 → argument w ≡ 0 → v ≡ row_of (operation w) → v.takes ≤ s.height
+  pub plain_noted : {t : Tally} {v : Row} → t ≡ tallied s w → word 3 0 ≤ w → w < word 9 0 → argument w ≡ 0 → v ≡ row_of (operation w) → v.takes ≤ s.height
       → Fits t ≡ noted count s w
-  plain-noted e p q a r l =
-      let f = plain-found p q r l in
-      fits e (omega arith) (both_fit _ _ _ w f (plain-argument _ _ w (omega arith) (omega arith) ∙ eq-eqb _ _ a) (enough_operands w f (omega arith)))
+  plain_noted e p q a r l =
+      let f = plain_found p q r l in
+      fits e (omega arith) (both_fit _ _ _ w f (plain_argument _ _ w (omega arith) (omega arith) ∙ eq-eqb _ _ a) (enough_operands w f (omega arith)))
 
   -- Neither the match nor what is none of the fourteen is noted.
   pub past_the_stores : word 14 0 ≤ w → Unfit ≡ noted count s w
@@ -226,38 +226,38 @@ module _ (count : ℕ) (s : Tally) (w : ℕ) where
   store_not_alone p n = unfit (wrong_operands _ _ _ w (not_alone w (omega arith) n))
 
   -- A store of another register than the next is not noted.
-  pub another-register : word 9 0 ≤ w → w < word 14 0 → (argument w ≡ s.stores → ⊥) → Unfit ≡ noted count s w
-  another-register p q n = unfit (wrong_argument _ _ _ w (store-argument _ _ w (omega arith) (omega arith) ∙ pick_false _ _ (ne_eqb _ _ n)))
+  pub another_register : word 9 0 ≤ w → w < word 14 0 → (argument w ≡ s.stores → ⊥) → Unfit ≡ noted count s w
+  another_register p q n = unfit (wrong_argument _ _ _ w (store_argument _ _ w (omega arith) (omega arith) ∙ pick_false _ _ (ne_eqb _ _ n)))
 
   -- A store past the bound is not noted.
   pub store_too_large : word 9 0 ≤ w → w < word 14 0 → 65536 ≤ argument w → Unfit ≡ noted count s w
   store_too_large p q l =
       unfit
       (wrong_argument _ _ _ w
-      (store-argument _ _ w (omega arith) (omega arith) ∙ rw (le-ltb (argument w) 65536 l) (no_test (eqb (argument w) s.stores))))
+      (store_argument _ _ w (omega arith) (omega arith) ∙ rw (le-ltb (argument w) 65536 l) (no_test (eqb (argument w) s.stores))))
 
   -- A store of the next register, at height 1, is noted.
-  pub store-noted : {t : Tally} → t ≡ tallied s w → word 9 0 ≤ w → w < word 14 0 → s.height ≡ 1 → argument w ≡ s.stores → argument w < 65536
+  pub store_noted : {t : Tally} → t ≡ tallied s w → word 9 0 ≤ w → w < word 14 0 → s.height ≡ 1 → argument w ≡ s.stores → argument w < 65536
       → Fits t ≡ noted count s w
-  store-noted e p q one a l =
+  store_noted e p q one a l =
       let f = store_found p q one in
       fits e (omega arith)
       (both_fit _ _ _ w f
-      (store-argument _ _ w (omega arith) (omega arith) ∙ pick_true _ _ (eq-eqb _ _ a) ∙ lt-ltb _ _ l)
-      (one-operand w f (omega arith) ∙ eq-eqb _ _ one))
+      (store_argument _ _ w (omega arith) (omega arith) ∙ pick_true _ _ (eq-eqb _ _ a) ∙ lt-ltb _ _ l)
+      (one_operand w f (omega arith) ∙ eq-eqb _ _ one))
 
   -- The match with argument 0 fits where one value is on the stack.
   match_fits : operation w ≡ 14 → argument w ≡ 0 → (b : Bool) → eqb s.height 1 ≡ b → b ≡ word_fits count s.stores s.height w
   match_fits o a true e =
       let one = eqb-true _ _ e in
       let f = end_found {w = w} (omega arith) (omega arith) one in
-      sym (both_fit _ _ _ w f (match_argument _ _ w o ∙ eq-eqb _ _ a) (one-operand w f (omega arith) ∙ e))
+      sym (both_fit _ _ _ w f (match_argument _ _ w o ∙ eq-eqb _ _ a) (one_operand w f (omega arith) ∙ e))
   match_fits o a false e = sym (wrong_operands _ _ _ w (not_alone w (omega arith) (eqb-false _ _ e)))
 
   -- The match may be the last word where it fits, whatever the count.
-  pub ended-fits : operation w ≡ 14 → ended s w ≡ word_fits count s.stores s.height w
+  pub ended_fits : operation w ≡ 14 → ended s w ≡ word_fits count s.stores s.height w
   unfolding ended
-  ended-fits o =
+  ended_fits o =
       elim (dec_le 1 (argument w)) [
         | yes m ↦
             pick_false _ _ (ne_eqb w (word 14 0) (λ z. omega arith))

@@ -22,8 +22,8 @@ use Rattle.listing.specs.Step.{reach, tallied, noted, ended, Undescribed}
 use Rattle.listing.specs.declared.Tally.{Tally}
 use Rattle.listing.specs.declared.Noted.{Noted}
 use Rattle.listing.specs.declared.Noted.TheVariants.{Fits, Unfit}
-use Rattle.listing.proofs.Laws.{height_rises_by_one, store_counts_one, max_assoc, Fitting, fitting, register-below, register_small, described-fits, described-goes_on, described-ends}
-use Rattle.listing.proofs.NotedWord.{ended-fits}
+use Rattle.listing.proofs.Laws.{height_rises_by_one, store_counts_one, max_assoc, Fitting, fitting, register_below, register_small, described_fits, described_goes_on, described_ends}
+use Rattle.listing.proofs.NotedWord.{ended_fits}
 
 -- The word at the place p.
 abbrev pub word_at : List ℕ → ℕ → ℕ
@@ -59,21 +59,21 @@ fits_under count other k h w e l =
 -- A word that fits names a register below the count, and below the bound of all register numbers.
 module _ {count k h w : ℕ} (f : Fitting count k h w) where
   named_below : reach 2 w ≤ count
-  named_below = pick_case (λ (n : ℕ). n ≤ count) (eqb (operation w) 2) (λ q. omega (arith, register-below f (eqb-true _ _ q))) (λ _. omega arith)
+  named_below = pick_case (λ (n : ℕ). n ≤ count) (eqb (operation w) 2) (λ q. omega (arith, register_below f (eqb-true _ _ q))) (λ _. omega arith)
 
   named_small : reach 2 w ≤ 65536
   named_small = pick_case (λ (n : ℕ). n ≤ 65536) (eqb (operation w) 2) (λ q. omega (arith, register_small f (eqb-true _ _ q))) (λ _. omega arith)
 
 -- A word that was noted fits, and the tally has it.
-fits-noted : {x t : Tally} (b : Bool) → pick b (Fits x) Unfit ≡ Fits t → (b ≡ true) × (t ≡ x)
+fits_noted : {x t : Tally} (b : Bool) → pick b (Fits x) Unfit ≡ Fits t → (b ≡ true) × (t ≡ x)
 unfolding pick
-fits-noted true e = (refl, (cc))
-fits-noted false e = absurd (let z : ◌≡◌ {A = ℕ} 0 1 = cc in omega arith)
+fits_noted true e = (refl, (cc))
+fits_noted false e = absurd (let z : ◌≡◌ {A = ℕ} 0 1 = cc in omega arith)
 
 -- The operation of a word that was noted is one of the fourteen.
-pub noted-known : {n : Noted} {t : Tally} (count : ℕ) (s : Tally) (w : ℕ) → n ≡ noted count s w → n ≡ Fits t → 1 ≤ operation w
+pub noted_known : {n : Noted} {t : Tally} (count : ℕ) (s : Tally) (w : ℕ) → n ≡ noted count s w → n ≡ Fits t → 1 ≤ operation w
 unfolding noted
-noted-known count s w e q = (fitting _ _ _ w (second_holds (eqb (operation w) 14) (fits-noted _ (sym e ∙ q)).0).1).operand.known
+noted_known count s w e q = (fitting _ _ _ w (second_holds (eqb (operation w) 14) (fits_noted _ (sym e ∙ q)).0).1).operand.known
 
 -- A word that was not noted does not fit, or is the match.
 unfit_noted : (x : Tally) (b : Bool) → pick b (Fits x) Unfit ≡ Unfit → b ≡ false
@@ -126,7 +126,7 @@ module _ {count : ℕ} {ws : List ℕ} {s : Tally} {p : ℕ} (g : Passing count 
 
   -- A word of a described listing fits.
   fitting_here : check ws ≡ Described → Fitting (registers ws) s.stores s.height (word_at ws p)
-  fitting_here d = described-fits _ _ _ _ _ _ (only_here d)
+  fitting_here d = described_fits _ _ _ _ _ _ (only_here d)
 
   -- Behind a word that was noted the pass goes on.
   pub passing_on : {n : Noted} {t : Tally} → n ≡ noted count s (word_at ws p) → n ≡ Fits t → Passing count ws t (p + 1)
@@ -134,7 +134,7 @@ module _ {count : ℕ} {ws : List ℕ} {s : Tally} {p : ℕ} (g : Passing count 
   passing_on e q =
       let w = word_at ws p in
       let split = drop_here ws p l in
-      let f = fits-noted (pick (eqb (operation w) 14) false (word_fits count s.stores s.height w)) (sym e ∙ q) in
+      let f = fits_noted (pick (eqb (operation w) 14) false (word_fits count s.stores s.height w)) (sym e ∙ q) in
       let b = second_holds (eqb (operation w) 14) f.0 in
       rw f.1 record {
         inside = omega arith;
@@ -155,7 +155,7 @@ module _ {count : ℕ} {ws : List ℕ} {s : Tally} {p : ℕ} (g : Passing count 
   -- A word of a described listing that another follows is not the match.
   no_match_here : p + 1 < length ws → check ws ≡ Described → operation (word_at ws p) ≡ 14 → ⊥
   no_match_here m d o =
-      let z : behind ws p ≡ [] = described-ends _ _ _ _ _ _ (only_here d) o in
+      let z : behind ws p ≡ [] = described_ends _ _ _ _ _ _ (only_here d) o in
       let y : ◌≡◌ {A = ℕ} 0 1 = cc (drop_here ws (p + 1) m) in
       omega arith
 
@@ -165,7 +165,7 @@ module _ {count : ℕ} {ws : List ℕ} {s : Tally} {p : ℕ} (g : Passing count 
   unfolding noted
   unfit_there u v e q =
       fails_too (eqb (operation (word_at ws p)) 14) _
-      (λ o. sym (ended-fits count s (word_at ws p) (eqb-true _ _ o)) ∙ sym u ∙ v)
+      (λ o. sym (ended_fits count s (word_at ws p) (eqb-true _ _ o)) ∙ sym u ∙ v)
       (unfit_noted (tallied s (word_at ws p)) _ (sym e ∙ q))
 
   -- The match ends the listing, and fits.
@@ -179,7 +179,7 @@ module _ {count : ℕ} {ws : List ℕ} {s : Tally} {p : ℕ} (g : Passing count 
     ended_here m =
         g.enough m
         ∙ here
-        ∙ pick_true _ _ (sym (ended-fits (registers ws) s (word_at ws p) ended_match) ∙ sym u ∙ v)
+        ∙ pick_true _ _ (sym (ended_fits (registers ws) s (word_at ws p) ended_match) ∙ sym u ∙ v)
         ∙ pick_true _ _ (eq-eqb _ _ ended_match)
 
 -- The pass with the slice's own count is the check.
@@ -237,7 +237,7 @@ module _ {ws : List ℕ} {s : Tally} {p : ℕ} (g : Passing 65536 ws s p) where
     match_here d = elim (dec_le 14 (operation (word_at ws p))) [
       | yes o ↦ omega (arith, (fitting_here g l d).operand.last)
       | no o ↦ absurd
-          (let q = rw (drop_of_length-le ws m) at (described-goes_on _ _ _ _ _ _ (only_here g l d) (λ z. omega arith)) in
+          (let q = rw (drop_of_length-le ws m) at (described_goes_on _ _ _ _ _ _ (only_here g l d) (λ z. omega arith)) in
           let z : ◌≡◌ {A = ℕ} 0 1 = cc in
           omega arith)
     ]
@@ -245,7 +245,7 @@ module _ {ws : List ℕ} {s : Tally} {p : ℕ} (g : Passing 65536 ws s p) where
     -- One that does not end so is not described.
     pub never_unended : b ≡ false → Undescribed ws
     never_unended v = record {
-      never = λ d. false_is_not_true (sym v ∙ u ∙ ended-fits (registers ws) s (word_at ws p) (match_here d) ∙ (fitting_here g l d).fits);
+      never = λ d. false_is_not_true (sym v ∙ u ∙ ended_fits (registers ws) s (word_at ws p) (match_here d) ∙ (fitting_here g l d).fits);
     }
 
     -- At the match all is counted.
@@ -270,6 +270,6 @@ module _ {ws : List ℕ} {s : Tally} {p : ℕ} (g : Passing 65536 ws s p) where
       never_missing n = record { never = λ d. omega (arith, g.named d, all_stores) }
 
       -- Where each register named has its store, the listing is described.
-      pub described-last : s.named ≤ s.stores → check ws ≡ Described
+      pub described_last : s.named ≤ s.stores → check ws ≡ Described
       unfolding after_match
-      described-last n = ended_here g l u v (omega (arith, all_stores)) ∙ rw (drop_of_length-le ws m) refl
+      described_last n = ended_here g l u v (omega (arith, all_stores)) ∙ rw (drop_of_length-le ws m) refl

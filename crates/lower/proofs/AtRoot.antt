@@ -29,7 +29,7 @@ use Rattle.choice.specs.declared.Survey.{Survey}
 use Rattle.choice.specs.declared.Survey.TheVariants.{Registers}
 use Rattle.choice.proofs.Words.{the_registers_of_a_choice, the_listing_of_a_choice, as_long_a_choice}
 use Rattle.choice.proofs.Surveys.{the_survey}
-use Rattle.within.specs.AllPairs.{all_registers as within-registers, within_words}
+use Rattle.within.specs.AllPairs.{all_registers as within_registers, within_words}
 use Rattle.within.specs.Rows.{Paired, Numberable as NumberablePairs}
 use Rattle.within.proofs.PairByPair.{the_registers_of_a_within}
 use Rattle.within.proofs.Lengths.{as_many_words as as_long_a_within}
@@ -60,8 +60,8 @@ module _ {t o : List ℕ} {work : ℕ} (O : Outlines t o work) {v : Node} (e : v
   is_inside : n < nodes t
   is_inside = omega (arith, O.formed.some)
 
-  walkable-root : WalkableRoot (room_of work) (tree_at t n)
-  walkable-root = rw is_last (a_walked_root_is_walkable (room_of work) (root t) O.counts (sym O.walks))
+  walkable_root : WalkableRoot (room_of work) (tree_at t n)
+  walkable_root = rw is_last (a_walked_root_is_walkable (room_of work) (root t) O.counts (sym O.walks))
 
   -- A root of another kind than 7.
   module _ (other : v.kind ≡ 7 → ⊥) where
@@ -70,7 +70,7 @@ module _ {t o : List ℕ} {work : ℕ} (O : Outlines t o work) {v : Node} (e : v
 
     walkable : Walkable (room_of work) (tree_at t n)
     unfolding WalkableRoot
-    walkable = subst (WalkableRooted (room_of work)) is_another walkable-root
+    walkable = subst (WalkableRooted (room_of work)) is_another walkable_root
 
     node : Expandable t n
     node = record { formed = O.formed; inside = is_inside; room = room_of work; walkable = walkable }
@@ -86,28 +86,28 @@ module _ {t o : List ℕ} {work : ℕ} (O : Outlines t o work) {v : Node} (e : v
           few = omega (arith, bounded.fits, room_is_small work);
         }
 
-    choice-misplaced : misplaced (root t) ≡ first_misplaced 0 (alternatives_of t n)
+    choice_misplaced : misplaced (root t) ≡ first_misplaced 0 (alternatives_of t n)
     unfolding alternatives_of misplaced
-    choice-misplaced = rw (← is_last) (ap misplaced_rooted is_another)
+    choice_misplaced = rw (← is_last) (ap misplaced_rooted is_another)
 
-    choice-synth : (first : ℕ) → synth_of t first ≡ choice (alternatives_of t n) first
+    choice_synth : (first : ℕ) → synth_of t first ≡ choice (alternatives_of t n) first
     unfolding alternatives_of synth_of
-    choice-synth first = rw (← is_last) (ap (λ (x : Rooted). synth_rooted x first) is_another)
+    choice_synth first = rw (← is_last) (ap (λ (x : Rooted). synth_rooted x first) is_another)
 
-    pub choice-registers : (first : ℕ) → length (synth_of t first).stores ≡ all_registers (alternatives_of t n)
-    choice-registers first = ap (λ (y : Synth). length y.stores) (choice-synth first) ∙ the_registers_of_a_choice (alternatives_of t n) first
+    pub choice_registers : (first : ℕ) → length (synth_of t first).stores ≡ all_registers (alternatives_of t n)
+    choice_registers first = ap (λ (y : Synth). length y.stores) (choice_synth first) ∙ the_registers_of_a_choice (alternatives_of t n) first
 
-    pub choice-listing : (first : ℕ) → words_of t first ≡ choice_words (alternatives_of t n) first
+    pub choice_listing : (first : ℕ) → words_of t first ≡ choice_words (alternatives_of t n) first
     unfolding words_of
-    choice-listing first = ap (listing first) (choice-synth first) ∙ the_listing_of_a_choice (alternatives_of t n) first (some_alternatives node)
+    choice_listing first = ap (listing first) (choice_synth first) ∙ the_listing_of_a_choice (alternatives_of t n) first (some_alternatives node)
 
-    pub choice-surveyed : {survey : Survey} → survey ≡ survey_of (alternatives_of t n) → survey ≡ survey_root t
+    pub choice_surveyed : {survey : Survey} → survey ≡ survey_of (alternatives_of t n) → survey ≡ survey_root t
     unfolding survey_root register_count
-    choice-surveyed s = s ∙ the_survey (alternatives_of t n) ∙ sym (ap₂ survey_by choice-misplaced (choice-registers 0))
+    choice_surveyed s = s ∙ the_survey (alternatives_of t n) ∙ sym (ap₂ survey_by choice_misplaced (choice_registers 0))
 
     pub root_is_numberable : (first : ℕ) → first + register_count t ≤ 65536 → Numberable t o n first work
     unfolding register_count
-    root_is_numberable first few = record { keepable = root_is_keepable; few = omega (arith, choice-registers 0) }
+    root_is_numberable first few = record { keepable = root_is_keepable; few = omega (arith, choice_registers 0) }
 
   -- A root within.
   module _ (k : v.kind ≡ 7) where
@@ -116,7 +116,7 @@ module _ {t o : List ℕ} {work : ℕ} (O : Outlines t o work) {v : Node} (e : v
 
     both : Walkable (room_of work) (tree_at t v.p) × Walkable (room_of work) (tree_at t v.q) × Pairable (room_of work) (alternatives_of t v.p) (alternatives_of t v.q)
     unfolding alternatives_of WalkableRoot
-    both = rw is_pair at walkable-root
+    both = rw is_pair at walkable_root
 
     pub operands_are_paired : Paired t o v.p v.q work
     operands_are_paired =
@@ -133,40 +133,40 @@ module _ {t o : List ℕ} {work : ℕ} (O : Outlines t o work) {v : Node} (e : v
           pairs = both.2;
         }
 
-    within-synth : (first : ℕ) → synth_of t first ≡ synth_within (alternatives_of t v.p) (alternatives_of t v.q) first
+    within_synth : (first : ℕ) → synth_of t first ≡ synth_within (alternatives_of t v.p) (alternatives_of t v.q) first
     unfolding alternatives_of synth_of
-    within-synth first = rw (← is_last, is_pair) refl
+    within_synth first = rw (← is_last, is_pair) refl
 
-    pub within-stored : (first : ℕ) → length (synth_of t first).stores ≡ within-registers (alternatives_of t v.p) (alternatives_of t v.q)
-    within-stored first = ap (λ (y : Synth). length y.stores) (within-synth first) ∙ the_registers_of_a_within _ _ both.2.one both.2.two first
+    pub within_stored : (first : ℕ) → length (synth_of t first).stores ≡ within_registers (alternatives_of t v.p) (alternatives_of t v.q)
+    within_stored first = ap (λ (y : Synth). length y.stores) (within_synth first) ∙ the_registers_of_a_within _ _ both.2.one both.2.two first
 
-    pub within-listing : (first : ℕ) → words_of t first ≡ within_words (alternatives_of t v.p) (alternatives_of t v.q) first
+    pub within_listing : (first : ℕ) → words_of t first ≡ within_words (alternatives_of t v.p) (alternatives_of t v.q) first
     unfolding words_of within_words
-    within-listing first = ap (listing first) (within-synth first)
+    within_listing first = ap (listing first) (within_synth first)
 
-    within-misplaced : misplaced (root t) ≡ nowhere
+    within_misplaced : misplaced (root t) ≡ nowhere
     unfolding misplaced
-    within-misplaced = rw (← is_last, is_pair) refl
+    within_misplaced = rw (← is_last, is_pair) refl
 
-    pub within-surveyed : {registers : ℕ} → registers ≡ within-registers (alternatives_of t v.p) (alternatives_of t v.q) → Registers registers ≡ survey_root t
+    pub within_surveyed : {registers : ℕ} → registers ≡ within_registers (alternatives_of t v.p) (alternatives_of t v.q) → Registers registers ≡ survey_root t
     unfolding survey_root register_count
-    within-surveyed q = ap Registers q ∙ sym (ap₂ survey_by within-misplaced (within-stored 0))
+    within_surveyed q = ap Registers q ∙ sym (ap₂ survey_by within_misplaced (within_stored 0))
 
     pub operands_are_numberable : (first : ℕ) → first + register_count t ≤ 65536 → NumberablePairs t o v.p v.q first work
     unfolding register_count
-    operands_are_numberable first few = record { paired = operands_are_paired; few = omega (arith, within-stored 0) }
+    operands_are_numberable first few = record { paired = operands_are_paired; few = omega (arith, within_stored 0) }
 
 -- From any register on there are as many registers and words.
 module _ {t o : List ℕ} {work : ℕ} (O : Outlines t o work) (first : ℕ) where
   pub as_many_registers : length (synth_of t first).stores ≡ register_count t
   unfolding register_count
   as_many_registers = elim (ℕ_discrete (node_at t (length t / 5 - 1)).kind 7) [
-    | yes k ↦ within-stored O refl k first ∙ sym (within-stored O refl k 0)
-    | no other ↦ choice-registers O refl other first ∙ sym (choice-registers O refl other 0)
+    | yes k ↦ within_stored O refl k first ∙ sym (within_stored O refl k 0)
+    | no other ↦ choice_registers O refl other first ∙ sym (choice_registers O refl other 0)
   ]
 
   pub as_many_words : length (words_of t first) ≡ length (words_of t 0)
   as_many_words = elim (ℕ_discrete (node_at t (length t / 5 - 1)).kind 7) [
-    | yes k ↦ ap length (within-listing O refl k first) ∙ as_long_a_within _ _ (operands_are_paired O refl k).pairs.one (operands_are_paired O refl k).pairs.two first ∙ sym (ap length (within-listing O refl k 0))
-    | no other ↦ ap length (choice-listing O refl other first) ∙ as_long_a_choice (alternatives_of t (length t / 5 - 1)) first ∙ sym (ap length (choice-listing O refl other 0))
+    | yes k ↦ ap length (within_listing O refl k first) ∙ as_long_a_within _ _ (operands_are_paired O refl k).pairs.one (operands_are_paired O refl k).pairs.two first ∙ sym (ap length (within_listing O refl k 0))
+    | no other ↦ ap length (choice_listing O refl other first) ∙ as_long_a_choice (alternatives_of t (length t / 5 - 1)) first ∙ sym (ap length (choice_listing O refl other 0))
   ]

@@ -11,7 +11,7 @@ use lib.Seq.{length-take-le}
 use borrow.Author.Tests.{lt-ltb, le-ltb, ltb-false}
 use Rattle.words.specs.Choice.{pick, pick_true, pick_false}
 use Rattle.words.specs.Written.{Wrote}
-use Rattle.words.proofs.Laws.{length-written, front-written}
+use Rattle.words.proofs.Laws.{length-written, front_written}
 use Rattle.meaning.specs.Tree.{nodes, root}
 use Rattle.meaning.specs.Listing.{deepest}
 use Rattle.meaning.specs.Refusals.{table, walk_root, room_of, nowhere, misplaced}
@@ -96,25 +96,25 @@ module _ {t o : List ℕ} {work first registers : ℕ} (O : Outlines t o work) (
     }
 
     module _ (h : words ≤ length out) where
-      pub words-fit : length (words_of t first) ≤ length out
-      words-fit = omega (arith, as_counted)
+      pub words_fit : length (words_of t first) ≤ length out
+      words_fit = omega (arith, as_counted)
 
       module _ {out₁ : List ℕ} {end : ℕ} (v : Wrote out out₁ 0 end (words_of t first)) where
         pub end_inside : end ≤ length out₁
-        end_inside = omega (arith, v.ends, ap length v.holds, length-written out 0 (words_of t first), words-fit)
+        end_inside = omega (arith, v.ends, ap length v.holds, length-written out 0 (words_of t first), words_fit)
 
         pub operands_found : OperandsFound 0 (take end out₁)
         operands_found =
-            rw (front-written v words-fit)
+            rw (front_written v words_fit)
             (a_lowering_finds_its_operands t first (a_formed_root_is_ranged t O.formed) (omega (arith, as_many_registers O first, few)))
 
         pub finishes_listed : {r : Lowered} → r ≡ Listing registers end (deepest (take end out₁)) → Finishes t first out r out₁
         unfolding output_after
         finishes_listed p =
             let long : end ≡ length (words_of t first) = omega (arith, v.ends) in
-            let same : Listing registers end (deepest (take end out₁)) ≡ Listing registers (length (words_of t first)) (deepest (words_of t first)) = rw (front-written v words-fit, long) refl in
+            let same : Listing registers end (deepest (take end out₁)) ≡ Listing registers (length (words_of t first)) (deepest (words_of t first)) = rw (front_written v words_fit, long) refl in
             record {
-              answers = p ∙ same ∙ sym (past_13 (length out) ∙ pick_false _ _ (le-ltb (length out) (length (words_of t first)) words-fit));
+              answers = p ∙ same ∙ sym (past_13 (length out) ∙ pick_false _ _ (le-ltb (length out) (length (words_of t first)) words_fit));
               holds = rw p v.holds;
             }
 
@@ -132,8 +132,8 @@ module _ (t : List ℕ) {checked : Table} (p : checked ≡ table t) (e : checked
   passed = sym p ∙ e
 
   -- 1: a table has at most 4,096 nodes.
-  pub long-enough : {outline : ℕ} → outline ≡ 4096 → nodes t ≤ outline
-  long-enough same = omega (arith, (a_checked_table_is_formed t p e).few)
+  pub long_enough : {outline : ℕ} → outline ≡ 4096 → nodes t ≤ outline
+  long_enough same = omega (arith, (a_checked_table_is_formed t p e).few)
 
 module _ (t : List ℕ) (f : table t ≡ Formed) where
   pub table_is_formed : FormedTable t

@@ -13,12 +13,12 @@ use Rattle.little_endian.specs.Bytes.{words_of_bytes}
 use Rattle.lowered_text.specs.Page.{page_text, of_input, input_text}
 
 -- The bytes of words below 256.
-abbrev low-words : List ℕ → List ℕ
-low-words [] = []
-low-words (w ∷ ws) = w ∷ 0 ∷ 0 ∷ 0 ∷ low-words ws
+abbrev low_words : List ℕ → List ℕ
+low_words [] = []
+low_words (w ∷ ws) = w ∷ 0 ∷ 0 ∷ 0 ∷ low_words ws
 
 -- "For the words 1,0,0,0,0, 1,1,0,0,0, 2,0,1,1,1 it prints all of".
-the_example : input_text (low-words (1 ∷ 0 ∷ 0 ∷ 0 ∷ 0 ∷ 1 ∷ 1 ∷ 0 ∷ 0 ∷ 0 ∷ 2 ∷ 0 ∷ 1 ∷ 1 ∷ 1 ∷ []))
+the_example : input_text (low_words (1 ∷ 0 ∷ 0 ∷ 0 ∷ 0 ∷ 1 ∷ 1 ∷ 0 ∷ 0 ∷ 0 ∷ 2 ∷ 0 ∷ 1 ∷ 1 ∷ 1 ∷ []))
     ≡ bytes "ok 1 8 2\nseq 0 = a0 any\nmatch = r0 a1 any and\n"
 unfolding input_text of_input page_text words_of_bytes lower after_nothing table lowest_failing columns formed_node uses_in uses range_node node_at tree_at after_table walk_root walk walk_in deep_enough limited and_then room_of misplaced first_misplaced after_walk synth_of words_of fits rows row_of deepest deepest_from answer_text words_listed first_line_text lines_text line_text tokens_text line_start_text tag_text token_text digits pick
 the_example = refl

@@ -8,7 +8,7 @@ use lib.ListN.{length, take}
 use lib.Seq.{take_all, length-take-le}
 use Rattle.words.specs.Choice.{pick_yes, pick_no}
 use Rattle.words.specs.Written.{Wrote}
-use Rattle.words.proofs.Laws.{length-written, front-written, same_words}
+use Rattle.words.proofs.Laws.{length-written, front_written, same_words}
 use Rattle.meaning.specs.Lower.{words_of, lower, output_after}
 use Rattle.meaning.specs.declared.Lowered.{Lowered}
 use Rattle.meaning.specs.declared.Lowered.TheVariants.{Listing, Refused}
@@ -25,21 +25,21 @@ use Rattle.lowered_text.specs.declared.Shown.{Shown}
 use Rattle.lowered_text.specs.Page.{page_text, of_input, input_answer, input_text, Shows}
 
 -- A listing is as long as its answer says, and fits the output.
-listed-fits : (answer : Lowered) (t : List ℕ) (work out : ℕ) → lower t work out 0 ≡ answer → words_listed answer ≤ out
+listed_fits : (answer : Lowered) (t : List ℕ) (work out : ℕ) → lower t work out 0 ≡ answer → words_listed answer ≤ out
 unfolding words_listed
-listed-fits (Listing r w d) t work out e =
+listed_fits (Listing r w d) t work out e =
     let fitting = (a_listed_table_passed_all t work out 0 r w d e).fitting in
-    omega (arith, fitting.words_are, fitting.long-enough)
-listed-fits (Refused number place) t work out e = omega arith
+    omega (arith, fitting.words_are, fitting.long_enough)
+listed_fits (Refused number place) t work out e = omega arith
 
-listed-in_front : (answer : Lowered) (t : List ℕ) (work : ℕ) (out : List ℕ) → lower t work (length out) 0 ≡ answer
+listed_in_front : (answer : Lowered) (t : List ℕ) (work : ℕ) (out : List ℕ) → lower t work (length out) 0 ≡ answer
     → take (words_listed answer) (output_after answer t 0 out) ≡ take (words_listed answer) (words_of t 0)
 unfolding words_listed output_after words_of
-listed-in_front (Listing r w d) t work out e =
+listed_in_front (Listing r w d) t work out e =
     let fitting = (a_listed_table_passed_all t work (length out) 0 r w d e).fitting in
-    front-written {o = out} {n = w} (record { holds = refl; ends = omega (arith, fitting.words_are) }) (omega (arith, fitting.long-enough))
+    front_written {o = out} {n = w} (record { holds = refl; ends = omega (arith, fitting.words_are) }) (omega (arith, fitting.long_enough))
     ∙ sym (take_all w (words_of t 0) (omega (arith, fitting.words_are)))
-listed-in_front (Refused number place) t work out e = refl
+listed_in_front (Refused number place) t work out e = refl
 
 length_output : (answer : Lowered) (t out : List ℕ) → length (output_after answer t 0 out) ≡ length out
 unfolding output_after
@@ -49,21 +49,21 @@ length_output (Refused number place) t out = refl
 -- One call of lowering with both slices at their size, and of printing its answer.
 module _ {t work out : List ℕ} {answer : Lowered} {work' out' : List ℕ} (lowered : Lowers t 0 work out answer work' out')
     (works : length work ≡ 16384) (outs : length out ≡ 16384) {page page' : List ℕ} {printed : Printed} (prints : Prints answer out' page printed page') where
-  text-few : words_listed answer ≤ 16384
-  text-few = rw (← outs) (listed-fits answer t (length work) (length out) (sym lowered.answers))
+  text_few : words_listed answer ≤ 16384
+  text_few = rw (← outs) (listed_fits answer t (length work) (length out) (sym lowered.answers))
 
   -- The words stand inside the output, and their text finds room on the page.
   pub page_has_room : length page ≡ 524416 → printed ≡ NoRoom → ⊥
   page_has_room long e =
       let out_long : length out' ≡ 16384 = rw lowered.holds (length_output answer t out) ∙ outs in
-      room_is_used prints (omega (arith, text-few)) (omega (arith, text-few)) e
+      room_is_used prints (omega (arith, text_few)) (omega (arith, text_few)) e
 
   -- The page holds the text of the tree.
   pub page_printed : {end : ℕ} → printed ≡ Text end → Shows (lower t 16384 16384 0) (page_text t) page (record { answer = answer; end = end }) page'
   unfolding answer_text page_text
   page_printed e =
       let listed : take (words_listed answer) out' ≡ take (words_listed answer) (words_of t 0) =
-      rw lowered.holds (listed-in_front answer t (length work) out (sym lowered.answers)) in
+      rw lowered.holds (listed_in_front answer t (length work) out (sym lowered.answers)) in
       let answered : answer ≡ lower t 16384 16384 0 = lowered.answers ∙ rw (works, outs) refl in
       record { answers = answered; stands = same_words (rw listed (rw answered refl)) (printed_is_written prints e) }
 
@@ -115,12 +115,12 @@ module _ (input : List ℕ) {page page' : List ℕ} {shown : Shown} where
 module _ (input : List ℕ) (short : length input ≤ 40960) {zeros tree : List ℕ} {count : ℕ} (long : length zeros ≡ 10240)
     (read : Wrote zeros tree 0 count (words_of_bytes input)) where
   pub words_read : take count tree ≡ words_of_bytes input
-  words_read = front-written read (omega (arith, long, words_take_four_bytes input))
+  words_read = front_written read (omega (arith, long, words_take_four_bytes input))
 
-  pub words-fit : count ≤ length tree
-  words-fit =
+  pub words_fit : count ≤ length tree
+  words_fit =
       let kept : length tree ≡ length zeros = rw read.holds (length-written zeros 0 (words_of_bytes input)) in
       omega (arith, long, words_take_four_bytes input, read.ends)
 
-  pub words-counted : count ≡ length (take count tree)
-  words-counted = sym (length-take-le count tree words-fit)
+  pub words_counted : count ≡ length (take count tree)
+  words_counted = sym (length-take-le count tree words_fit)

@@ -22,16 +22,16 @@ use Rattle.repeated_runs.specs.Repeated.{Repeated}
 use Rattle.recorded_runs.specs.Recorded.{recorded, Counted, Throughout}
 use Rattle.matches.specs.Tables.{table_of, Ready}
 use Rattle.matches.proofs.TablesApart.{ends_before}
-use Rattle.matches.proofs.NodesOfRightTables.{occurs_matched, delayed_matched, repeated-matched, goto-matched, nonconsec-matched, throughout-matched, inside-matched}
+use Rattle.matches.proofs.NodesOfRightTables.{occurs_matched, delayed_matched, repeated_matched, goto_matched, nonconsec_matched, throughout_matched, inside_matched}
 
 module _ {tree rows : List ℕ} {width side : ℕ} {tables : List ℕ} {n : ℕ} (ready : Ready tree rows width side tables n) where
   -- A lower node is one of few.
-  pub operand-few : {k : ℕ} → k < n → k < 64
-  operand-few l = omega (arith, ready.inside, ready.fillable.few)
+  pub operand_few : {k : ℕ} → k < n → k < 64
+  operand_few l = omega (arith, ready.inside, ready.fillable.few)
 
   -- The table of a lower node stands among the others.
-  pub operand-stands : {k place : ℕ} → k < n → place ≡ table_of side k → Stands tables place side
-  operand-stands {k} l e =
+  pub operand_stands : {k place : ℕ} → k < n → place ≡ table_of side k → Stands tables place side
+  operand_stands {k} l e =
       omega (arith, ready.fillable.enough, ends_before (side * side) {k = k} {n = nodes tree} (omega (arith, ready.inside)))
 
   module _ {v : Node} (w : v ≡ node_at tree n) where
@@ -40,27 +40,27 @@ module _ {tree rows : List ℕ} {width side : ℕ} {tables : List ℕ} {n : ℕ}
     formed = rw w (ready.fillable.formed.each n ready.inside)
 
     -- An atom stands in the row.
-    pub atom-recorded : v.kind ≡ 1 → v.p < width
+    pub atom_recorded : v.kind ≡ 1 → v.p < width
     unfolding columns pick
-    atom-recorded k = rw w (ready.fillable.atoms n ready.inside (rw (← w, k) refl))
+    atom_recorded k = rw w (ready.fillable.atoms n ready.inside (rw (← w, k) refl))
 
     -- Both operands of a delay are lower.
-    pub delay_left-below : v.kind ≡ 2 → v.p < n
-    delay_left-below k = formed.delay_left k
+    pub delay_left_below : v.kind ≡ 2 → v.p < n
+    delay_left_below k = formed.delay_left k
 
-    pub delay_right-below : v.kind ≡ 2 → v.q < n
-    delay_right-below k = formed.delay_right k
+    pub delay_right_below : v.kind ≡ 2 → v.q < n
+    delay_right_below k = formed.delay_right k
 
     -- The operand of a repetition is lower, and the repetition's range is in order.
-    pub repeated-below : v.kind ≡ 3 → v.p < n
-    repeated-below k = formed.consec_under k
+    pub repeated_below : v.kind ≡ 3 → v.p < n
+    repeated_below k = formed.consec_under k
 
-    pub repeated-in_order : v.kind ≡ 3 → v.min ≤ v.max
-    repeated-in_order k = formed.consec_range k
+    pub repeated_in_order : v.kind ≡ 3 → v.min ≤ v.max
+    repeated_in_order k = formed.consec_range k
 
     -- The operand of a throughout is lower, and its condition stands in the row.
-    pub covered-below : v.kind ≡ 6 → v.q < n
-    covered-below k = formed.throughout_under k
+    pub covered_below : v.kind ≡ 6 → v.q < n
+    covered_below k = formed.throughout_under k
 
     pub condition_recorded : v.kind ≡ 6 → v.p < width
     unfolding columns pick
@@ -70,8 +70,8 @@ module _ {tree rows : List ℕ} {width side : ℕ} {tables : List ℕ} {n : ℕ}
     pub one_below : v.kind ≡ 7 → v.p < n
     one_below k = formed.within_one k
 
-    pub two-below : v.kind ≡ 7 → v.q < n
-    two-below k = formed.within_two k
+    pub two_below : v.kind ≡ 7 → v.q < n
+    two_below k = formed.within_two k
 
     -- No other kind is left than goto and nonconsecutive repetition.
     pub counts_on : (v.kind ≡ 1 → ⊥) → (v.kind ≡ 2 → ⊥) → (v.kind ≡ 3 → ⊥) → (v.kind ≡ 6 → ⊥) → (v.kind ≡ 7 → ⊥)
@@ -84,25 +84,25 @@ module _ {tree rows : List ℕ} {width side : ℕ} {tables : List ℕ} {n : ℕ}
 
     module _ (counts : (v.kind ≡ 4) ⊎ (v.kind ≡ 5)) where
       -- The operand of a goto or nonconsecutive repetition is lower.
-      counted-below : v.p < n
-      counted-below = ⊎_elim formed.goto_under formed.nonconsec_under counts
+      counted_below : v.p < n
+      counted_below = ⊎_elim formed.goto_under formed.nonconsec_under counts
 
       -- The operand of a goto or nonconsecutive repetition can be read.
       pub counted_readable : v.p * 5 + 5 ≤ length tree
-      counted_readable = omega (arith, counted-below, ready.inside, ready.fillable.formed.whole)
+      counted_readable = omega (arith, counted_below, ready.inside, ready.fillable.formed.whole)
 
       pub counted_of_few : v.p < 4096
-      counted_of_few = omega (arith, operand-few counted-below)
+      counted_of_few = omega (arith, operand_few counted_below)
 
       -- A goto or nonconsecutive repetition counts one at least.
-      pub counted-some : 0 < v.min
-      counted-some = ⊎_elim (λ k. omega (arith, formed.goto_count k)) (λ k. omega (arith, formed.nonconsec_count k)) counts
+      pub counted_some : 0 < v.min
+      counted_some = ⊎_elim (λ k. omega (arith, formed.goto_count k)) (λ k. omega (arith, formed.nonconsec_count k)) counts
 
       -- The operand of a goto or nonconsecutive repetition, with the words u, is an atom that stands in the row.
-      pub counted-recorded : {u : Node} → u ≡ node_at tree v.p → u.p < width
+      pub counted_recorded : {u : Node} → u ≡ node_at tree v.p → u.p < width
       unfolding columns pick
-      counted-recorded z =
-          let inside : v.p < nodes tree = omega (arith, counted-below, ready.inside) in
+      counted_recorded z =
+          let inside : v.p < nodes tree = omega (arith, counted_below, ready.inside) in
           let atom = ready.fillable.over_atoms n ready.inside (rw w at counts) in
           rw (z, w) (ready.fillable.atoms (node_at tree n).p (rw w at inside) (rw atom refl))
 
@@ -124,18 +124,18 @@ module _ {tree rows : List ℕ} {width : ℕ} {tables row row' : List ℕ} {n i 
   pub repeated_added : {under : ℕ} → v.kind ≡ 3 → under ≡ table_of (length row) v.p
       → Gains row row' (Repeated tables under (length row) v.min v.max i)
       → Gains row row' (Match (recorded rows width) (tree_at tree n) i)
-  repeated_added k u g = gains_as (λ j h. rw (u, w) (repeated-matched tree rows width (length row) tables n ready (rw w at k) i j h)) g
+  repeated_added k u g = gains_as (λ j h. rw (u, w) (repeated_matched tree rows width (length row) tables n ready (rw w at k) i j h)) g
 
   -- The ends added of a throughout are those that its tree matches.
   pub throughout_added : {under : ℕ} → v.kind ≡ 6 → under ≡ table_of (length row) v.q
       → Gains row row' (Throughout tables under (length row) rows width v.p i)
       → Gains row row' (Match (recorded rows width) (tree_at tree n) i)
-  throughout_added k u g = gains_as (λ j h. rw (u, w) (throughout-matched tree rows width (length row) tables n ready (rw w at k) i j h)) g
+  throughout_added k u g = gains_as (λ j h. rw (u, w) (throughout_matched tree rows width (length row) tables n ready (rw w at k) i j h)) g
 
   -- The ends added of a within are those that its tree matches.
   pub inside_added : {one two : ℕ} → v.kind ≡ 7 → one ≡ table_of (length row) v.p → two ≡ table_of (length row) v.q
       → Gains row row' (Within tables one two (length row) i) → Gains row row' (Match (recorded rows width) (tree_at tree n) i)
-  inside_added k l r g = gains_as (λ j h. rw (l, r, w) (inside-matched tree rows width (length row) tables n ready (rw w at k) i j h)) g
+  inside_added k l r g = gains_as (λ j h. rw (l, r, w) (inside_matched tree rows width (length row) tables n ready (rw w at k) i j h)) g
 
 -- The ends added of a goto or nonconsecutive repetition, whose operand has the words u, are those that its tree matches.
 pub counted_added : {tree rows : List ℕ} {width : ℕ} {tables row row' : List ℕ} {n : ℕ} {v u : Node} (i : ℕ)
@@ -143,6 +143,6 @@ pub counted_added : {tree rows : List ℕ} {width : ℕ} {tables row row' : List
     → Gains row row' (Counted (eqb v.kind 5) rows width u.p v.min i)
     → Gains row row' (Match (recorded rows width) (tree_at tree n) i)
 counted_added {tree} {rows} {width} {tables} {row} {n = n} {v} i ready w (inl k) z g =
-    gains_as (λ j h. rw (ne_eqb v.kind 5 (λ e. omega arith), z, w) (goto-matched tree rows width (length row) tables n ready (rw w at k) i j h)) g
+    gains_as (λ j h. rw (ne_eqb v.kind 5 (λ e. omega arith), z, w) (goto_matched tree rows width (length row) tables n ready (rw w at k) i j h)) g
 counted_added {tree} {rows} {width} {tables} {row} {n = n} {v} i ready w (inr k) z g =
-    gains_as (λ j h. rw (eq-eqb v.kind 5 k, z, w) (nonconsec-matched tree rows width (length row) tables n ready (rw w at k) i j h)) g
+    gains_as (λ j h. rw (eq-eqb v.kind 5 k, z, w) (nonconsec_matched tree rows width (length row) tables n ready (rw w at k) i j h)) g

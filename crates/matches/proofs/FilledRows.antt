@@ -16,7 +16,7 @@ use Rattle.runs.specs.Ends.{Gains}
 use Rattle.runs.proofs.Laws.{in_gained_blank}
 use Rattle.recorded_runs.specs.Recorded.{recorded}
 use Rattle.matches.specs.Tables.{table_of, RightRow, Ready, NoEnds, Replaced, RowFilled, TableFilled}
-use Rattle.matches.proofs.TablesApart.{ends_before, written-replaced, of_right_rows, ready_still}
+use Rattle.matches.proofs.TablesApart.{ends_before, written_replaced, of_right_rows, ready_still}
 
 -- The first j bytes of the row are put.
 abbrev pub RowPutting : List ℕ → List ℕ → ℕ → List ℕ → ℕ → Type 0
@@ -59,7 +59,7 @@ pub row_filled : {tree rows : List ℕ} {width : ℕ} {n i p : ℕ} {before afte
     → Gains row row' (Match (recorded rows width) (tree_at tree n) i) → p ≡ table_of (length row) n
     → after ≡ written before (p + i * length row) row' → RowFilled tree rows width (length row) before after n i
 row_filled {tree} {rows} {width} {n} {i} {p} {before} {after} {row} {row'} ready h none gains e f = record {
-  replaced = rw (f, e) (rw gains.long at (written-replaced before (table_of (length row) n + i * length row) row'));
+  replaced = rw (f, e) (rw gains.long at (written_replaced before (table_of (length row) n + i * length row) row'));
   right = record { ends = each };
 }
   where

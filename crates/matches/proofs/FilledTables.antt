@@ -36,20 +36,20 @@ module _ {tree rows : List ℕ} {width side room n : ℕ} {v : Node}
   formed = rw w (f.formed.each n h)
 
   -- The operand of a repetition is lower.
-  pub repeated-lower : {m : ℕ} → n ≡ m → v.kind ≡ 3 → v.p < m
-  repeated-lower e k = omega (arith, formed.consec_under k)
+  pub repeated_lower : {m : ℕ} → n ≡ m → v.kind ≡ 3 → v.p < m
+  repeated_lower e k = omega (arith, formed.consec_under k)
 
   -- The operand of a repetition is one of the tree's nodes.
-  pub repeated-inside : v.kind ≡ 3 → v.p < nodes tree
-  repeated-inside k = omega (arith, formed.consec_under k)
+  pub repeated_inside : v.kind ≡ 3 → v.p < nodes tree
+  repeated_inside k = omega (arith, formed.consec_under k)
 
   -- The operand of a throughout is lower.
-  pub covered-lower : {m : ℕ} → n ≡ m → v.kind ≡ 6 → v.q < m
-  covered-lower e k = omega (arith, formed.throughout_under k)
+  pub covered_lower : {m : ℕ} → n ≡ m → v.kind ≡ 6 → v.q < m
+  covered_lower e k = omega (arith, formed.throughout_under k)
 
   -- The operand of a throughout is one of the tree's nodes.
-  pub covered-inside : v.kind ≡ 6 → v.q < nodes tree
-  covered-inside k = omega (arith, formed.throughout_under k)
+  pub covered_inside : v.kind ≡ 6 → v.q < nodes tree
+  covered_inside k = omega (arith, formed.throughout_under k)
 
   module _ {joins : Bool} (t : Tells joins (JoinsTwo v)) (e : joins ≡ true) where
     -- Both operands of a delay or a within are below the node.
@@ -57,16 +57,16 @@ module _ {tree rows : List ℕ} {width side room n : ℕ} {v : Node}
     both_below = ⊎_elim (λ k. (formed.delay_left k, formed.delay_right k)) (λ k. (formed.within_one k, formed.within_two k)) (told t e)
 
     -- The left operand of a delay or a within is lower.
-    pub left-lower : {m : ℕ} → n ≡ m → v.p < m
-    left-lower q = omega (arith, both_below.0)
+    pub left_lower : {m : ℕ} → n ≡ m → v.p < m
+    left_lower q = omega (arith, both_below.0)
 
     -- The left operand of a delay or a within is one of the tree's nodes.
     pub left_inside : v.p < nodes tree
     left_inside = omega (arith, both_below.0)
 
     -- The right operand of a delay or a within is lower.
-    pub right-lower : {m : ℕ} → n ≡ m → v.q < m
-    right-lower q = omega (arith, both_below.1)
+    pub right_lower : {m : ℕ} → n ≡ m → v.q < m
+    right_lower q = omega (arith, both_below.1)
 
     -- The right operand of a delay or a within is one of the tree's nodes.
     pub right_inside : v.q < nodes tree

@@ -12,8 +12,8 @@ use Rattle.meaning.specs.Lowerable.{WellFormed}
 use Rattle.meaning.specs.declared.Node.{Node}
 use Rattle.meaning.proofs.RunLaws.{Forward}
 use Rattle.meaning.proofs.MatchForward.{match_forward}
-use Rattle.meaning.proofs.MatchDecided.{delay-below}
-use Rattle.meaning.proofs.Nodes.{at-atom, at-delay, at-consec, at-goto, at-nonconsec, at-throughout, at-within}
+use Rattle.meaning.proofs.MatchDecided.{delay_below}
+use Rattle.meaning.proofs.Nodes.{at_atom, at_delay, at_consec, at_goto, at_nonconsec, at_throughout, at_within}
 use Rattle.runs.specs.Ends.{Kept}
 use Rattle.joined_runs.specs.Joined.{Delayed, Within}
 use Rattle.repeated_runs.specs.Repeated.{Repeated}
@@ -55,16 +55,16 @@ module _ (tree rows : List ℕ) (width side : ℕ) (tables : List ℕ) (n : ℕ)
 
   -- An atom's runs are read off the rows.
   pub occurs_matched : v.kind ≡ 1 → SameBelow side (Occurs (recorded rows width) v.p) matched
-  occurs_matched e i j h = rw (at-atom tree n e) (λ x. x, λ x. x)
+  occurs_matched e i j h = rw (at_atom tree n e) (λ x. x, λ x. x)
 
   -- A delay's runs join the operands' runs.
   pub delayed_matched : v.kind ≡ 2 → SameBelow side (Delayed tables (table_of side v.p) (table_of side v.q) side v.min v.max) matched
-  delayed_matched e i j h = rw (at-delay tree n e (formed.delay_left e) (formed.delay_right e)) (
+  delayed_matched e i j h = rw (at_delay tree n e (formed.delay_left e) (formed.delay_right e)) (
     λ (d, l, u, x). (d, l, up_to_the_word d v.max u, (joined d).0 x),
     λ (d, l, u, x). (
       d,
       l,
-      up_to_the_maximum d v.max u d (omega arith) (omega (arith, ready.fillable.short, delay-below d left right (forward v.q) i j x)),
+      up_to_the_maximum d v.max u d (omega arith) (omega (arith, ready.fillable.short, delay_below d left right (forward v.q) i j x)),
       (joined d).1 x,
     ),
   )
@@ -79,8 +79,8 @@ module _ (tree rows : List ℕ) (width side : ℕ) (tables : List ℕ) (n : ℕ)
       joined d = join_same side _ right (ready.right (inl e)).runs (forward v.q) d _ left (ready.left (inl e)).runs i j h
 
   -- A consecutive repetition's runs repeat the operand's runs.
-  pub repeated-matched : v.kind ≡ 3 → SameBelow side (Repeated tables (table_of side v.p) side v.min v.max) matched
-  repeated-matched e i j h = rw (at-consec tree n e (formed.consec_under e)) (
+  pub repeated_matched : v.kind ≡ 3 → SameBelow side (Repeated tables (table_of side v.p) side v.min v.max) matched
+  repeated_matched e i j h = rw (at_consec tree n e (formed.consec_under e)) (
     λ (c, l, u, xs). (c, l, up_to_the_word c v.max u, (copies c).0 xs),
     λ (c, l, u, xs).
         let few : v.min ≤ unlimited = omega (arith, formed.consec_min e) in
@@ -96,23 +96,23 @@ module _ (tree rows : List ℕ) (width side : ℕ) (tables : List ℕ) (n : ℕ)
       copies c = times_same side _ under (ready.repeated e).runs (forward v.p) c i j h
 
   -- A goto repetition's runs go from one tick of its atom to the next.
-  pub goto-matched : v.kind ≡ 4 → SameBelow side (Counted false rows width (node_at tree v.p).p v.min) matched
-  goto-matched e i j h =
-      rw (at-goto tree n e (formed.goto_under e), at-atom tree v.p (ready.fillable.over_atoms n ready.inside (inl e))) (λ x. x, λ x. x)
+  pub goto_matched : v.kind ≡ 4 → SameBelow side (Counted false rows width (node_at tree v.p).p v.min) matched
+  goto_matched e i j h =
+      rw (at_goto tree n e (formed.goto_under e), at_atom tree v.p (ready.fillable.over_atoms n ready.inside (inl e))) (λ x. x, λ x. x)
 
   -- A nonconsecutive repetition's runs may go on behind the last tick of its atom.
-  pub nonconsec-matched : v.kind ≡ 5 → SameBelow side (Counted true rows width (node_at tree v.p).p v.min) matched
-  nonconsec-matched e i j h =
-      rw (at-nonconsec tree n e (formed.nonconsec_under e), at-atom tree v.p (ready.fillable.over_atoms n ready.inside (inr e))) (λ x. x, λ x. x)
+  pub nonconsec_matched : v.kind ≡ 5 → SameBelow side (Counted true rows width (node_at tree v.p).p v.min) matched
+  nonconsec_matched e i j h =
+      rw (at_nonconsec tree n e (formed.nonconsec_under e), at_atom tree v.p (ready.fillable.over_atoms n ready.inside (inr e))) (λ x. x, λ x. x)
 
   -- A throughout's runs are the operand's runs at every tick of which the condition holds.
-  pub throughout-matched : v.kind ≡ 6 → SameBelow side (Throughout tables (table_of side v.q) side rows width v.p) matched
-  throughout-matched e i j h =
+  pub throughout_matched : v.kind ≡ 6 → SameBelow side (Throughout tables (table_of side v.q) side rows width v.p) matched
+  throughout_matched e i j h =
       let under = (ready.under e).runs i j h in
-      rw (at-throughout tree n e (formed.throughout_under e)) (λ (x, y). (under.0 x, y), λ (x, y). (under.1 x, y))
+      rw (at_throughout tree n e (formed.throughout_under e)) (λ (x, y). (under.0 x, y), λ (x, y). (under.1 x, y))
 
   -- A within's runs are the runs of its second operand that one of the first lies in.
-  pub inside-matched : v.kind ≡ 7 → SameBelow side (Within tables (table_of side v.p) (table_of side v.q) side) matched
-  inside-matched e i j h =
-      rw (at-within tree n e (formed.within_one e) (formed.within_two e))
+  pub inside_matched : v.kind ≡ 7 → SameBelow side (Within tables (table_of side v.p) (table_of side v.q) side) matched
+  inside_matched e i j h =
+      rw (at_within tree n e (formed.within_one e) (formed.within_two e))
       (inside_same side _ _ _ _ (ready.left (inr e)).runs (ready.right (inr e)).runs i j h)

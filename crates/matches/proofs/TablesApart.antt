@@ -36,8 +36,8 @@ written_behind [] o at i h = refl
 written_behind (w ∷ ws) o at i h = written_behind ws (set o at w) (suc at) i (omega arith) ∙ get_or-set_other o at i w 0 (λ e. omega arith)
 
 -- Bytes put one behind another replace a part.
-pub written-replaced : (o : List ℕ) (at : ℕ) (ws : List ℕ) → Replaced o (written o at ws) at (length ws)
-written-replaced o at ws = record {
+pub written_replaced : (o : List ℕ) (at : ℕ) (ws : List ℕ) → Replaced o (written o at ws) at (length ws)
+written_replaced o at ws = record {
   long = length-written o at ws;
   in_front = λ k h. written_below ws o at k h;
   behind = λ k h. written_behind ws o at k h;

@@ -10,7 +10,7 @@ use Rattle.meaning.specs.Demand3.{Unconditional, ThroughoutOnTop}
 use Rattle.meaning.proofs.Acceptable.{Rule7, Regular, RegularChain, AcceptableRooted, Acceptable}
 use Rattle.meaning.proofs.Roots.{by_root, by_throughouts}
 use Rattle.meaning.proofs.EveryAlternative.{Every}
-use Rattle.meaning.proofs.Rules.{rule_7_of_throughout, rule_7_without_throughout, rules_9, none-misplaced}
+use Rattle.meaning.proofs.Rules.{rule_7_of_throughout, rule_7_without_throughout, rules_9, none_misplaced}
 
 -- 3, 6 and 8: the shape of the tree.
 
@@ -57,4 +57,4 @@ an_accepted_tree_is_acceptable room =
     (one, two, rules_9 x one W.2.one, rules_9 y two W.2.two))
     (λ s R W e U.
     let chain = a_walked_chain_is_regular room s R W U in
-    (chain, λ y m. (rule_7_of_a_chain room s W chain y m, none-misplaced 0 (expand s) e y m)))
+    (chain, λ y m. (rule_7_of_a_chain room s W chain y m, none_misplaced 0 (expand s) e y m)))

@@ -30,7 +30,7 @@ use Rattle.meaning.proofs.Accepted.{an_accepted_tree_is_acceptable}
 -- The words fit: 13 and 14 are past, and the numbers are those of the assignments and of the words.
 pub record Fitting (o : Synth) (first out r w d : ℕ) : Type 0 where
   pub few : first + length o.stores ≤ 65536
-  pub long-enough : length (listing first o) ≤ out
+  pub long_enough : length (listing first o) ≤ out
   pub registers_are : r ≡ length o.stores
   pub words_are : w ≡ length (listing first o)
   pub deepest_is : d ≡ deepest (listing first o)
@@ -49,20 +49,20 @@ module _ (r w d : ℕ) where
   refused_is_not_listed e = let z : ◌≡◌ {A = ℕ} 0 1 = cc in omega arith
 
   -- A listing was let pass by 13 and 14.
-  fits-listed : (t : List ℕ) (first out : ℕ) → fits (length (synth_of t first).stores) (words_of t first) first out ≡ Listing r w d
+  fits_listed : (t : List ℕ) (first out : ℕ) → fits (length (synth_of t first).stores) (words_of t first) first out ≡ Listing r w d
       → Fitting (synth_of t first) first out r w d
   unfolding fits words_of
-  fits-listed t first out e =
+  fits_listed t first out e =
       let (many, more) = second_taken (ltb 65536 (first + length (synth_of t first).stores)) refused_is_not_listed e in
       let (short, same) = second_taken (ltb out (length (words_of t first))) refused_is_not_listed more in
-      record { few = ltb-false _ _ many; long-enough = ltb-false _ _ short; registers_are = cc; words_are = cc; deepest_is = cc }
+      record { few = ltb-false _ _ many; long_enough = ltb-false _ _ short; registers_are = cc; words_are = cc; deepest_is = cc }
 
   -- A listing was let pass by 12.
-  placed-listed : (found : Found) (t : List ℕ) (first out : ℕ) → after_walk found t first out ≡ Listing r w d
+  placed_listed : (found : Found) (t : List ℕ) (first out : ℕ) → after_walk found t first out ≡ Listing r w d
       → (found ≡ nowhere) × (fits (length (synth_of t first).stores) (words_of t first) first out ≡ Listing r w d)
   unfolding after_walk
-  placed-listed (at i) t first out e = absurd (refused_is_not_listed e)
-  placed-listed nowhere t first out e = (refl, e)
+  placed_listed (at i) t first out e = absurd (refused_is_not_listed e)
+  placed_listed nowhere t first out e = (refl, e)
 
   -- A listing was let pass by 4 to 11.
   walked_listed : (walked : Walked) (t : List ℕ) (first out : ℕ) → after_table walked t first out ≡ Listing r w d
@@ -72,30 +72,30 @@ module _ (r w d : ℕ) where
   walked_listed (Counted c) t first out e = ((c, refl), e)
 
   -- A listing was let pass by 1 to 3.
-  formed-listed : (checked : Table) (t : List ℕ) (work out first : ℕ) → after_nothing checked t work out first ≡ Listing r w d
+  formed_listed : (checked : Table) (t : List ℕ) (work out first : ℕ) → after_nothing checked t work out first ≡ Listing r w d
       → (checked ≡ Formed) × (after_table (walk_root (room_of work) (root t)) t first out ≡ Listing r w d)
   unfolding after_nothing
-  formed-listed (Misformed number place) t work out first e = absurd (refused_is_not_listed e)
-  formed-listed Formed t work out first e = (refl, e)
+  formed_listed (Misformed number place) t work out first e = absurd (refused_is_not_listed e)
+  formed_listed Formed t work out first e = (refl, e)
 
 -- 1 to 3 fell on no table whose answer is a listing.
 pub a_listed_table_is_formed : (t : List ℕ) (work out first r w d : ℕ) → lower t work out first ≡ Listing r w d → table t ≡ Formed
 unfolding lower
-a_listed_table_is_formed t work out first r w d e = (formed-listed r w d (table t) t work out first e).0
+a_listed_table_is_formed t work out first r w d e = (formed_listed r w d (table t) t work out first e).0
 
 -- No refusal of 1 to 14 fell on a table whose answer is a listing.
 pub a_listed_table_passed_all : (t : List ℕ) (work out first r w d : ℕ) → lower t work out first ≡ Listing r w d → PassedAll t work out first r w d
 unfolding lower
 a_listed_table_passed_all t work out first r w d e =
-    let (formed, walking) = formed-listed r w d (table t) t work out first e in
+    let (formed, walking) = formed_listed r w d (table t) t work out first e in
     let ((c, counted), placing) = walked_listed r w d (walk_root (room_of work) (root t)) t first out walking in
-    let (placed, fitting) = placed-listed r w d (misplaced (root t)) t first out placing in
+    let (placed, fitting) = placed_listed r w d (misplaced (root t)) t first out placing in
     record {
       formed = a_formed_table t formed;
       ranged = a_formed_root_is_ranged t (a_formed_table t formed);
       walkable = a_walked_root_is_walkable (room_of work) (root t) c counted;
       placed = placed;
-      fitting = fits-listed r w d t first out fitting;
+      fitting = fits_listed r w d t first out fitting;
     }
 
 -- What demand 3 asks for, from its own premises.

@@ -113,9 +113,9 @@ inside R₁ R₂ f r₁ r₂ i j =
 -- Which delays and which counts have to be tried.
 
 -- A delay that is joined lies before the end.
-pub delay-below : (d : ℕ) (L R : Runs) → Forward R → (i j : ℕ) → Join d L R i j → d < suc (suc j)
-delay-below zero L R f i j y = omega arith
-delay-below (suc d) L R f i j (k, x, y) = omega (arith, f (k + d) j y)
+pub delay_below : (d : ℕ) (L R : Runs) → Forward R → (i j : ℕ) → Join d L R i j → d < suc (suc j)
+delay_below zero L R f i j y = omega arith
+delay_below (suc d) L R f i j (k, x, y) = omega (arith, f (k + d) j y)
 
 -- Of more runs than there are ticks one is empty, and is left out.
 one_left_out : (R : Runs) → Forward R → (c i j : ℕ) → j ≤ c → Times (suc c) R i j → Times c R i j
@@ -168,11 +168,11 @@ module _ (trace : ℕ → ℕ → Bool) where
   until_first b i j =
       some_with_4 (suc j) (λ k p e n h. omega arith) (λ k. dec_le _ _) (λ k. ℕ_discrete _ _) (λ k. never b _ _) (λ k. holds (trace k b))
 
-  abbrev goto-runs : (b n : ℕ) → Decided (GotoRuns trace b n)
-  goto-runs b n = times n (UntilFirst trace b) (until_first_forward trace b) (until_first b)
+  abbrev goto_runs : (b n : ℕ) → Decided (GotoRuns trace b n)
+  goto_runs b n = times n (UntilFirst trace b) (until_first_forward trace b) (until_first b)
 
-  abbrev nonconsec-runs : (b n : ℕ) → Decided (NonconsecRuns trace b n)
-  nonconsec-runs b n i j = some_with_3 (suc j) (λ k x p no-b. omega arith) (λ k. goto-runs b n _ _) (λ k. dec_le _ _) (λ k. never b _ _)
+  abbrev nonconsec_runs : (b n : ℕ) → Decided (NonconsecRuns trace b n)
+  nonconsec_runs b n i j = some_with_3 (suc j) (λ k x p no-b. omega arith) (λ k. goto_runs b n _ _) (λ k. dec_le _ _) (λ k. never b _ _)
 
   abbrev over : (o : Operand) (R : ℕ → Runs) → ((b : ℕ) → Decided (R b)) → Decided (Over trace o R)
   over (boolean b) R r i j = r b i j
@@ -182,12 +182,12 @@ module _ (trace : ℕ → ℕ → Bool) where
   abbrev pub match_decided : (s : Seq) → Decided (Match trace s)
   match_decided (atom n a) i j = occurs a i j
   match_decided (delay n l r m x) i j =
-      some_with_3 (suc (suc j)) (λ d p u y. delay-below d (Match trace l) (Match trace r) (match_forward trace r) i j y)
+      some_with_3 (suc (suc j)) (λ d p u y. delay_below d (Match trace l) (Match trace r) (match_forward trace r) i j y)
       (λ d. dec_le _ _) (λ d. up_to d x)
       (λ d. join d (Match trace l) (Match trace r) (match_forward trace r) (match_decided l) (match_decided r) i j)
   match_decided (consec n s m x) i j = repeated (Match trace s) (match_forward trace s) (match_decided s) m x i j
-  match_decided (goto n s k) i j = over (operand s) (λ b. GotoRuns trace b k) (λ b. goto-runs b k) i j
-  match_decided (nonconsec n s k) i j = over (operand s) (λ b. NonconsecRuns trace b k) (λ b. nonconsec-runs b k) i j
+  match_decided (goto n s k) i j = over (operand s) (λ b. GotoRuns trace b k) (λ b. goto_runs b k) i j
+  match_decided (nonconsec n s k) i j = over (operand s) (λ b. NonconsecRuns trace b k) (λ b. nonconsec_runs b k) i j
   match_decided (throughout n c s) i j = both (match_decided s i j) (λ x. always c i j)
   match_decided (within n s₁ s₂) i j =
       inside (Match trace s₁) (Match trace s₂) (match_forward trace s₁) (match_decided s₁) (match_decided s₂) i j

@@ -190,9 +190,9 @@ there_is_an_alternative (delay n l r m x) k =
 there_is_an_alternative (consec n s m (finite zero)) k = (single Empty, inl refl)
 there_is_an_alternative (consec n s m (finite (suc x))) k =
     let (y, p) = there_is_a_copy (expand s) (below m) (there_is_an_alternative s k.0) in
-    let some-copies = copies_from (expand s) (below m) (suc x - below m) in
+    let some_copies = copies_from (expand s) (below m) (suc x - below m) in
     let q = (in_copies_from (expand s) (below m) (suc x - below m) y).1 (below m, omega arith, omega (arith, below_is_less m x k.1), p) in
-    (y, (in_with_empty m some-copies y).1 (inr q))
+    (y, (in_with_empty m some_copies y).1 (inr q))
 there_is_an_alternative (consec n s m unbounded) k =
     over_a_boolean (operand s) k (consec_unbounded m) Some
     (λ b. (single (ConsecAtLeast b (suc (below m))), (in_with_empty m _ _).1 (inr (inl refl))))

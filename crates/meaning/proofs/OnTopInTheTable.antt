@@ -19,7 +19,7 @@ use Rattle.meaning.specs.Lowerable.{FormedTable}
 use Rattle.meaning.specs.Demand3.{Unconditional, ThroughoutOnTop, OnTopInTheTable}
 use Rattle.meaning.specs.declared.Node.{Node}
 use Rattle.meaning.specs.declared.Table.TheVariants.{Formed}
-use Rattle.meaning.proofs.Nodes.{at-atom, at-delay, at-consec, at-goto, at-nonconsec, at-throughout, at-within}
+use Rattle.meaning.proofs.Nodes.{at_atom, at_delay, at_consec, at_goto, at_nonconsec, at_throughout, at_within}
 use Rattle.meaning.proofs.Roots.{by_throughouts}
 use Rattle.meaning.proofs.Formed.{p_is_lower, q_is_lower, each_node_is_formed, a_formed_table, each_node_is_used_once}
 use Rattle.meaning.proofs.Ranges.{by_kind}
@@ -115,8 +115,8 @@ module _ (t : List ℕ) (n : ℕ) where
       none k (inl (u, e)) = false_is_not_true (rw p at u)
       none k (inr (u, e)) = false_is_not_true (rw q at u)
 
-  one-operand : uses_p v ≡ true → uses_q v ≡ false → (ThroughoutOnTop (tree_at t n) → Free v.p) → (Free v.p → Free n) → ByItsOperands
-  one-operand p q under whole = record {
+  one_operand : uses_p v ≡ true → uses_q v ≡ false → (ThroughoutOnTop (tree_at t n) → Free v.p) → (Free v.p → Free n) → ByItsOperands
+  one_operand p q under whole = record {
     under = λ top k o. subst Free (is k o) (under top);
     whole = λ each. whole (each v.p (inl (p, refl)));
   }
@@ -143,22 +143,22 @@ module _ (t : List ℕ) (checked : table t ≡ Formed) where
   by_its_operands n inside other =
       let w = formed.each n inside in
       by_kind (node_at t n).kind w.known
-      (λ k. no_operand t n (rw k) (rw k) (subst⁻¹ Unconditional (at-atom t n k) tt))
+      (λ k. no_operand t n (rw k) (rw k) (subst⁻¹ Unconditional (at_atom t n k) tt))
       (λ k.
-      let is = at-delay t n k (w.delay_left k) (w.delay_right k) in
+      let is = at_delay t n k (w.delay_left k) (w.delay_right k) in
       two_operands t n (rw k) (rw k) (subst ThroughoutOnTop is) (subst⁻¹ Unconditional is))
       (λ k.
-      let is = at-consec t n k (w.consec_under k) in
-      one-operand t n (rw k) (rw k) (subst ThroughoutOnTop is) (subst⁻¹ Unconditional is))
+      let is = at_consec t n k (w.consec_under k) in
+      one_operand t n (rw k) (rw k) (subst ThroughoutOnTop is) (subst⁻¹ Unconditional is))
       (λ k.
-      let is = at-goto t n k (w.goto_under k) in
-      one-operand t n (rw k) (rw k) (subst ThroughoutOnTop is) (subst⁻¹ Unconditional is))
+      let is = at_goto t n k (w.goto_under k) in
+      one_operand t n (rw k) (rw k) (subst ThroughoutOnTop is) (subst⁻¹ Unconditional is))
       (λ k.
-      let is = at-nonconsec t n k (w.nonconsec_under k) in
-      one-operand t n (rw k) (rw k) (subst ThroughoutOnTop is) (subst⁻¹ Unconditional is))
+      let is = at_nonconsec t n k (w.nonconsec_under k) in
+      one_operand t n (rw k) (rw k) (subst ThroughoutOnTop is) (subst⁻¹ Unconditional is))
       (λ k. absurd (other k))
       (λ k.
-      let is = at-within t n k (w.within_one k) (w.within_two k) in
+      let is = at_within t n k (w.within_one k) (w.within_two k) in
       two_operands t n (rw k) (rw k) (subst ThroughoutOnTop is) (subst⁻¹ Unconditional is))
 
   -- The one operand of a throughout is q.
@@ -182,8 +182,8 @@ module _ (t : List ℕ) (checked : table t ≡ Formed) where
 
   -- From the table to the tree: the operand of another kind is no throughout, for it would be an operand of two nodes.
   module _ (said : OnTopInTheTable t) where
-    no_throughout-under : (n : ℕ) → n < nodes t → ((node_at t n).kind ≡ 6 → ⊥) → (k : ℕ) → IsOperand k (node_at t n) → (node_at t k).kind ≡ 6 → ⊥
-    no_throughout-under n inside other k o six =
+    no_throughout_under : (n : ℕ) → n < nodes t → ((node_at t n).kind ≡ 6 → ⊥) → (k : ℕ) → IsOperand k (node_at t n) → (node_at t k).kind ≡ 6 → ⊥
+    no_throughout_under n inside other k o six =
         let lower = operands_are_lower k n inside o in
         let below_the_root : k < below (nodes t) = omega (arith, below_is_one_less (nodes t)) in
         let (m, l, six', e) = said k below_the_root six in
@@ -201,7 +201,7 @@ module _ (t : List ℕ) (checked : table t ≡ Formed) where
     unconditional_under (suc count) n low inside other =
         (by_its_operands n inside other).whole (λ k o.
         let lower = operands_are_lower k n inside o in
-        unconditional_under count k (omega arith) (omega arith) (no_throughout-under n inside other k o))
+        unconditional_under count k (omega arith) (omega arith) (no_throughout_under n inside other k o))
 
     -- All throughouts stand on top.
     on_top_of_each : (count n : ℕ) → n < count → n < nodes t → ThroughoutOnTop (tree_at t n)
@@ -210,7 +210,7 @@ module _ (t : List ℕ) (checked : table t ≡ Formed) where
         elim (ℕ_discrete (node_at t n).kind 6) [
           | yes six ↦ (
               let lower = (formed.each n inside).throughout_under six in
-              rw (at-throughout t n six lower) (on_top_of_each count (node_at t n).q (omega arith) (omega arith))
+              rw (at_throughout t n six lower) (on_top_of_each count (node_at t n).q (omega arith) (omega arith))
               )
           | no other ↦ unconditional_is_on_top (tree_at t n) (unconditional_under (suc count) n low inside other)
         ]
@@ -232,7 +232,7 @@ module _ (t : List ℕ) (checked : table t ≡ Formed) where
         elim (ℕ_discrete (node_at t m).kind 6) [
           | yes six ↦ (
               let lower = (formed.each m inside).throughout_under six in
-              subst (λ z. ThroughoutOnTop (tree_at t z)) (the_operand_of_a_throughout n m six o) (rw (at-throughout t m six lower) at above)
+              subst (λ z. ThroughoutOnTop (tree_at t z)) (the_operand_of_a_throughout n m six o) (rw (at_throughout t m six lower) at above)
               )
           | no other ↦ unconditional_is_on_top (tree_at t n) ((by_its_operands m inside other).under above n o)
         ]
@@ -258,7 +258,7 @@ module _ (t : List ℕ) (checked : table t ≡ Formed) where
           | no other ↦ (
               let free = (by_its_operands m inside other).under (handed_to_each (nodes t) m (omega arith) inside) n o in
               let lower = (formed.each n (omega (arith, below_is_one_less (nodes t)))).throughout_under six in
-              absurd (rw (at-throughout t n six lower) at free)
+              absurd (rw (at_throughout t n six lower) at free)
               )
         ]
 

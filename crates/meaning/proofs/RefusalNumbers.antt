@@ -34,109 +34,109 @@ Numbered (Listing registers words deepest) = Unit {0}
 Numbered (Refused number place) = RefusalNumber number
 
 -- The refusals 1, 2 and 3 have their numbers.
-lowest_failing-numbered : (refusal : ℕ) → RefusalNumber refusal → (test : ℕ → Bool) (count n : ℕ) (then : Table) → TableNumbered then
+lowest_failing_numbered : (refusal : ℕ) → RefusalNumber refusal → (test : ℕ → Bool) (count n : ℕ) (then : Table) → TableNumbered then
     → TableNumbered (lowest_failing refusal test count n then)
 unfolding lowest_failing
-lowest_failing-numbered refusal l test zero n then p = p
-lowest_failing-numbered refusal l test (suc count) n then p =
-    pick_case TableNumbered (test n) (λ _. lowest_failing-numbered refusal l test count (n + 1) then p) (λ _. l)
+lowest_failing_numbered refusal l test zero n then p = p
+lowest_failing_numbered refusal l test (suc count) n then p =
+    pick_case TableNumbered (test n) (λ _. lowest_failing_numbered refusal l test count (n + 1) then p) (λ _. l)
 
-table-numbered : (t : List ℕ) → TableNumbered (table t)
+table_numbered : (t : List ℕ) → TableNumbered (table t)
 unfolding table
-table-numbered t =
+table_numbered t =
     let one : RefusalNumber 1 = omega arith in
-    let ranges = lowest_failing-numbered 3 (omega arith) (λ n. range_node (node_at t n)) (nodes t) 0 Formed tt in
-    let once = lowest_failing-numbered 2 (omega arith) (used_once t) (below (nodes t)) 0 _ ranges in
-    let formed = lowest_failing-numbered 1 one (λ n. formed_node n (node_at t n)) (nodes t) 0 _ once in
+    let ranges = lowest_failing_numbered 3 (omega arith) (λ n. range_node (node_at t n)) (nodes t) 0 Formed tt in
+    let once = lowest_failing_numbered 2 (omega arith) (used_once t) (below (nodes t)) 0 _ ranges in
+    let formed = lowest_failing_numbered 1 one (λ n. formed_node n (node_at t n)) (nodes t) 0 _ once in
     pick_case TableNumbered (eqb (length t % 5) 0)
     (λ _. pick_case TableNumbered (eqb (length t) 0) (λ _. one) (λ _. pick_case TableNumbered (ltb 20480 (length t)) (λ _. one) (λ _. formed)))
     (λ _. one)
 
 -- The refusals 4 to 11 have their numbers.
-limited-numbered : (room n : ℕ) (alts : List SeqAlt) → WalkNumbered (limited room n alts)
+limited_numbered : (room n : ℕ) (alts : List SeqAlt) → WalkNumbered (limited room n alts)
 unfolding limited
-limited-numbered room n alts =
+limited_numbered room n alts =
     pick_case WalkNumbered (ltb 256 (length alts)) (λ _. omega arith)
     (λ _. pick_case WalkNumbered (ltb room (entries alts)) (λ _. omega arith) (λ _. tt))
 
-and_then-numbered : (under next : Walked) → WalkNumbered under → WalkNumbered next → WalkNumbered (and_then under next)
+and_then_numbered : (under next : Walked) → WalkNumbered under → WalkNumbered next → WalkNumbered (and_then under next)
 unfolding and_then
-and_then-numbered (Counted c) next p q = q
-and_then-numbered (Stopped number place) next p q = p
+and_then_numbered (Counted c) next p q = q
+and_then_numbered (Stopped number place) next p q = p
 
-deep_enough-numbered : (d : ℕ) (s : Seq) (answer : Walked) → WalkNumbered answer → WalkNumbered (deep_enough d s answer)
+deep_enough_numbered : (d : ℕ) (s : Seq) (answer : Walked) → WalkNumbered answer → WalkNumbered (deep_enough d s answer)
 unfolding deep_enough
-deep_enough-numbered d s answer p = pick_case WalkNumbered (ltb 256 d) (λ _. omega arith) (λ _. p)
+deep_enough_numbered d s answer p = pick_case WalkNumbered (ltb 256 d) (λ _. omega arith) (λ _. p)
 
-over_boolean-numbered : (n count : ℕ) (x : Operand) (answer : Walked) → WalkNumbered answer → WalkNumbered (over_boolean n count x answer)
+over_boolean_numbered : (n count : ℕ) (x : Operand) (answer : Walked) → WalkNumbered answer → WalkNumbered (over_boolean n count x answer)
 unfolding over_boolean
-over_boolean-numbered n count x answer p =
+over_boolean_numbered n count x answer p =
     pick_case WalkNumbered (ltb 256 count) (λ _. omega arith) (λ _. pick_case WalkNumbered (is_boolean x) (λ _. p) (λ _. omega arith))
 
-walk_in-numbered : (room d : ℕ) (s : Seq) → WalkNumbered (walk_in room d s)
+walk_in_numbered : (room d : ℕ) (s : Seq) → WalkNumbered (walk_in room d s)
 unfolding walk_in
-walk_in-numbered room d (atom n a) = limited-numbered room n (expand (atom n a))
-walk_in-numbered room d (delay n l r m x) =
-    let left = deep_enough-numbered (d + 1) l _ (walk_in-numbered room (d + 1) l) in
-    let right = deep_enough-numbered (d + 1) r _ (walk_in-numbered room (d + 1) r) in
-    and_then-numbered _ _ left (and_then-numbered _ _ right (limited-numbered room n (expand (delay n l r m x))))
-walk_in-numbered room d (consec n s m (finite zero)) = limited-numbered room n (expand (consec n s m (finite zero)))
-walk_in-numbered room d (consec n s m (finite (suc x))) =
-    let under = deep_enough-numbered (d + 1) s _ (walk_in-numbered room (d + 1) s) in
-    and_then-numbered _ _ under
-    (pick_case WalkNumbered (ltb 256 (suc x)) (λ _. omega arith) (λ _. limited-numbered room n (expand (consec n s m (finite (suc x))))))
-walk_in-numbered room d (consec n s m unbounded) = over_boolean-numbered n m (operand s) _ (limited-numbered room n (expand (consec n s m unbounded)))
-walk_in-numbered room d (goto n s k) = over_boolean-numbered n k (operand s) _ (limited-numbered room n (expand (goto n s k)))
-walk_in-numbered room d (nonconsec n s k) = over_boolean-numbered n k (operand s) _ (limited-numbered room n (expand (nonconsec n s k)))
-walk_in-numbered room d (throughout n c s) =
-    let under = deep_enough-numbered (d + 1) s _ (walk_in-numbered room (d + 1) s) in
-    and_then-numbered _ _ under
-    (pick_case WalkNumbered (plain (expand s)) (λ _. limited-numbered room n (expand (throughout n c s))) (λ _. omega arith))
-walk_in-numbered room d (within n s₁ s₂) = omega arith
+walk_in_numbered room d (atom n a) = limited_numbered room n (expand (atom n a))
+walk_in_numbered room d (delay n l r m x) =
+    let left = deep_enough_numbered (d + 1) l _ (walk_in_numbered room (d + 1) l) in
+    let right = deep_enough_numbered (d + 1) r _ (walk_in_numbered room (d + 1) r) in
+    and_then_numbered _ _ left (and_then_numbered _ _ right (limited_numbered room n (expand (delay n l r m x))))
+walk_in_numbered room d (consec n s m (finite zero)) = limited_numbered room n (expand (consec n s m (finite zero)))
+walk_in_numbered room d (consec n s m (finite (suc x))) =
+    let under = deep_enough_numbered (d + 1) s _ (walk_in_numbered room (d + 1) s) in
+    and_then_numbered _ _ under
+    (pick_case WalkNumbered (ltb 256 (suc x)) (λ _. omega arith) (λ _. limited_numbered room n (expand (consec n s m (finite (suc x))))))
+walk_in_numbered room d (consec n s m unbounded) = over_boolean_numbered n m (operand s) _ (limited_numbered room n (expand (consec n s m unbounded)))
+walk_in_numbered room d (goto n s k) = over_boolean_numbered n k (operand s) _ (limited_numbered room n (expand (goto n s k)))
+walk_in_numbered room d (nonconsec n s k) = over_boolean_numbered n k (operand s) _ (limited_numbered room n (expand (nonconsec n s k)))
+walk_in_numbered room d (throughout n c s) =
+    let under = deep_enough_numbered (d + 1) s _ (walk_in_numbered room (d + 1) s) in
+    and_then_numbered _ _ under
+    (pick_case WalkNumbered (plain (expand s)) (λ _. limited_numbered room n (expand (throughout n c s))) (λ _. omega arith))
+walk_in_numbered room d (within n s₁ s₂) = omega arith
 
-walk-numbered : (room d : ℕ) (s : Seq) → WalkNumbered (walk room d s)
+walk_numbered : (room d : ℕ) (s : Seq) → WalkNumbered (walk room d s)
 unfolding walk
-walk-numbered room d s = deep_enough-numbered d s _ (walk_in-numbered room d s)
+walk_numbered room d s = deep_enough_numbered d s _ (walk_in_numbered room d s)
 
-limited_within-numbered : (room n : ℕ) (xs ys : List SeqAlt) → WalkNumbered (limited_within room n xs ys)
+limited_within_numbered : (room n : ℕ) (xs ys : List SeqAlt) → WalkNumbered (limited_within room n xs ys)
 unfolding limited_within
-limited_within-numbered room n xs ys =
+limited_within_numbered room n xs ys =
     pick_case WalkNumbered _
     (λ _. pick_case WalkNumbered (ltb 256 (length xs * length ys)) (λ _. omega arith)
     (λ _. pick_case WalkNumbered (ltb room (entries xs + entries ys)) (λ _. omega arith) (λ _. tt)))
     (λ _. omega arith)
 
-walk_rooted-numbered : (room : ℕ) (v : Rooted) → WalkNumbered (walk_rooted room v)
-walk_rooted-numbered room (a_within n s₁ s₂) =
-    and_then-numbered _ _ (walk-numbered room 1 s₁) (and_then-numbered _ _ (walk-numbered room 1 s₂) (limited_within-numbered room n (expand s₁) (expand s₂)))
-walk_rooted-numbered room (another s) = walk-numbered room 1 s
+walk_rooted_numbered : (room : ℕ) (v : Rooted) → WalkNumbered (walk_rooted room v)
+walk_rooted_numbered room (a_within n s₁ s₂) =
+    and_then_numbered _ _ (walk_numbered room 1 s₁) (and_then_numbered _ _ (walk_numbered room 1 s₂) (limited_within_numbered room n (expand s₁) (expand s₂)))
+walk_rooted_numbered room (another s) = walk_numbered room 1 s
 
-walk_root-numbered : (room : ℕ) (s : Seq) → WalkNumbered (walk_root room s)
+walk_root_numbered : (room : ℕ) (s : Seq) → WalkNumbered (walk_root room s)
 unfolding walk_root
-walk_root-numbered room s = walk_rooted-numbered room (rooted s)
+walk_root_numbered room s = walk_rooted_numbered room (rooted s)
 
 -- The refusals 12, 13 and 14 have their numbers.
-fits-numbered : (count : ℕ) (ws : List ℕ) (first out : ℕ) → Numbered (fits count ws first out)
+fits_numbered : (count : ℕ) (ws : List ℕ) (first out : ℕ) → Numbered (fits count ws first out)
 unfolding fits
-fits-numbered count ws first out =
+fits_numbered count ws first out =
     pick_case Numbered (ltb 65536 (first + count)) (λ _. omega arith) (λ _. pick_case Numbered (ltb out (length ws)) (λ _. omega arith) (λ _. tt))
 
-after_walk-numbered : (found : Found) (t : List ℕ) (first out : ℕ) → Numbered (after_walk found t first out)
+after_walk_numbered : (found : Found) (t : List ℕ) (first out : ℕ) → Numbered (after_walk found t first out)
 unfolding after_walk
-after_walk-numbered (at i) t first out = omega arith
-after_walk-numbered nowhere t first out = fits-numbered (length (synth_of t first).stores) (words_of t first) first out
+after_walk_numbered (at i) t first out = omega arith
+after_walk_numbered nowhere t first out = fits_numbered (length (synth_of t first).stores) (words_of t first) first out
 
-after_table-numbered : (walked : Walked) → WalkNumbered walked → (t : List ℕ) (first out : ℕ) → Numbered (after_table walked t first out)
+after_table_numbered : (walked : Walked) → WalkNumbered walked → (t : List ℕ) (first out : ℕ) → Numbered (after_table walked t first out)
 unfolding after_table
-after_table-numbered (Stopped number place) p t first out = p
-after_table-numbered (Counted c) p t first out = after_walk-numbered (misplaced (root t)) t first out
+after_table_numbered (Stopped number place) p t first out = p
+after_table_numbered (Counted c) p t first out = after_walk_numbered (misplaced (root t)) t first out
 
-after_nothing-numbered : (checked : Table) → TableNumbered checked → (t : List ℕ) (work out first : ℕ) → Numbered (after_nothing checked t work out first)
+after_nothing_numbered : (checked : Table) → TableNumbered checked → (t : List ℕ) (work out first : ℕ) → Numbered (after_nothing checked t work out first)
 unfolding after_nothing
-after_nothing-numbered (Misformed number place) p t work out first = p
-after_nothing-numbered Formed p t work out first = after_table-numbered _ (walk_root-numbered (room_of work) (root t)) t first out
+after_nothing_numbered (Misformed number place) p t work out first = p
+after_nothing_numbered Formed p t work out first = after_table_numbered _ (walk_root_numbered (room_of work) (root t)) t first out
 
 -- Whatever lowering refuses, it refuses with a number from 1 to 14.
 pub refusals_are_numbered_from_1_to_14 : (t : List ℕ) (work out first : ℕ) → Numbered (lower t work out first)
 unfolding lower
-refusals_are_numbered_from_1_to_14 t work out first = after_nothing-numbered (table t) (table-numbered t) t work out first
+refusals_are_numbered_from_1_to_14 t work out first = after_nothing_numbered (table t) (table_numbered t) t work out first

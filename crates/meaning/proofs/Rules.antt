@@ -34,17 +34,17 @@ fixed_hop : (h : SeqHop) → is_fixed h ≡ true → IsFixed h
 fixed_hop (Fixed d) e = tt
 fixed_hop (AtLeast m) e = absurd (false_is_not_true e)
 
-plain-alternative : (ss : List SeqStep) → plain_steps ss ≡ true → Plain ss
-plain-alternative [] e = tt
-plain-alternative (s ∷ ss) e =
+plain_alternative : (ss : List SeqStep) → plain_steps ss ≡ true → Plain ss
+plain_alternative [] e = tt
+plain_alternative (s ∷ ss) e =
     let (bool, more) = both_hold (is_bool s.term) e in
     let (fixed, rest) = both_hold (is_fixed s.hop) more in
-    (bool_term s.term bool, fixed_hop s.hop fixed, plain-alternative ss rest)
+    (bool_term s.term bool, fixed_hop s.hop fixed, plain_alternative ss rest)
 
 -- The walk looks at all alternatives at once; this is what it tells of each.
 pub every_plain : (alts : List SeqAlt) → plain alts ≡ true → Every (λ y. Plain y.steps) alts
 every_plain [] e y m = absurd m
-every_plain (x ∷ alts) e y (inl same) = rw same (plain-alternative x.steps (both_hold (plain_steps x.steps) e).0)
+every_plain (x ∷ alts) e y (inl same) = rw same (plain_alternative x.steps (both_hold (plain_steps x.steps) e).0)
 every_plain (x ∷ alts) e y (inr m) = every_plain alts (both_hold (plain_steps x.steps) e).1 y m
 
 -- 7: a guard over plain steps stands over nothing else.
@@ -93,34 +93,34 @@ hop_from_1 (Fixed zero) e = absurd (false_is_not_true e)
 hop_from_1 (Fixed (suc d)) e = tt
 hop_from_1 (AtLeast m) e = absurd (false_is_not_true e)
 
-later-empties : (p : SeqTerm) (ss : List SeqStep) → empties_fit (is_empty p) ss ≡ true → EmptiesFit p ss
-later-empties p [] e = tt
-later-empties p (s ∷ ss) e =
+later_empties : (p : SeqTerm) (ss : List SeqStep) → empties_fit (is_empty p) ss ≡ true → EmptiesFit p ss
+later_empties p [] e = tt
+later_empties p (s ∷ ss) e =
     pick_case (λ b. b ≡ true → EmptiesFit p (s ∷ ss)) (pick (is_empty p) true (is_empty s.term))
     (λ beside fit.
     let (from-1, rest) = both_hold (fixed_from_1 s.hop) fit in
-    (λ i. hop_from_1 s.hop from-1, λ i. hop_from_1 s.hop from-1, later-empties s.term ss rest))
+    (λ i. hop_from_1 s.hop from-1, λ i. hop_from_1 s.hop from-1, later_empties s.term ss rest))
     (λ apart rest.
     let (before, here) = second_taken (is_empty p) (λ q. false_is_not_true (sym q)) apart in (
       λ i. absurd (false_is_not_true (sym before ∙ empty_term p i)),
       λ i. absurd (false_is_not_true (sym here ∙ empty_term s.term i)),
-      later-empties s.term ss (rw here rest),
+      later_empties s.term ss (rw here rest),
     ))
     e
 
-fitting-steps : (ss : List SeqStep) → steps_fit ss ≡ true → Rule12 ss
-fitting-steps [] e = absurd (false_is_not_true e)
-fitting-steps (s ∷ ss) e =
+fitting_steps : (ss : List SeqStep) → steps_fit ss ≡ true → Rule12 ss
+fitting_steps [] e = absurd (false_is_not_true e)
+fitting_steps (s ∷ ss) e =
     let (lead, rest) = second_taken (is_empty s.term) false_is_not_true e in
-    (not_empty s.term lead, later-empties s.term ss (rw lead rest))
+    (not_empty s.term lead, later_empties s.term ss (rw lead rest))
 
 -- A misplaced alternative would have been found.
 found_is_not_nowhere : {i : ℕ} → at i ≡ nowhere → ⊥
 found_is_not_nowhere e = let z : ◌≡◌ {A = ℕ} 0 1 = cc in omega arith
 
 -- Rule 12 holds of all alternatives, where none was found.
-pub none-misplaced : (i : ℕ) (alts : List SeqAlt) → first_misplaced i alts ≡ nowhere → Every (λ y. Rule12 y.steps) alts
+pub none_misplaced : (i : ℕ) (alts : List SeqAlt) → first_misplaced i alts ≡ nowhere → Every (λ y. Rule12 y.steps) alts
 unfolding first_misplaced
-none-misplaced i [] e y m = absurd m
-none-misplaced i (x ∷ alts) e y (inl same) = rw same (fitting-steps x.steps (first_taken (steps_fit x.steps) found_is_not_nowhere e).0)
-none-misplaced i (x ∷ alts) e y (inr m) = none-misplaced (suc i) alts (first_taken (steps_fit x.steps) found_is_not_nowhere e).1 y m
+none_misplaced i [] e y m = absurd m
+none_misplaced i (x ∷ alts) e y (inl same) = rw same (fitting_steps x.steps (first_taken (steps_fit x.steps) found_is_not_nowhere e).0)
+none_misplaced i (x ∷ alts) e y (inr m) = none_misplaced (suc i) alts (first_taken (steps_fit x.steps) found_is_not_nowhere e).1 y m

@@ -60,7 +60,7 @@ module _ (σ : ℕ → ℕ → Bool) where
       omega (arith, followed_length ss P.2 (JoinOver s.hop R X) (w + hop_length s.hop) L' i j x)
 
   -- `window_len` is the length of every run.
-  pub alternative-length : (ss : List SeqStep) → Rule9 ss → HasLength (AlternativeRuns σ ss) (window_len ss)
-  alternative-length [] F i j x = absurd F
-  alternative-length (s ∷ ss) F i j x =
+  pub alternative_length : (ss : List SeqStep) → Rule9 ss → HasLength (AlternativeRuns σ ss) (window_len ss)
+  alternative_length [] F i j x = absurd F
+  alternative_length (s ∷ ss) F i j x =
       omega (arith, followed_length ss F.1 (TermRuns σ s.term) 1 (bool_length σ s.term F.0) i j x)

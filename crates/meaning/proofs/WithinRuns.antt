@@ -26,7 +26,7 @@ use Rattle.meaning.proofs.RunLaws.{SameRuns}
 use Rattle.meaning.proofs.AlternativeRuns.{rule_12_fits, AlternativeRuns, alternative_no_empty}
 use Rattle.meaning.proofs.PipelineRuns.{EndsUnder, MarksEnds, a_pipeline_marks_its_runs}
 use Rattle.meaning.proofs.ExpansionRuns.{RunsOfAny, expansion_keeps_the_matches}
-use Rattle.meaning.proofs.Windows.{rule_9_gives_12, alternative-length}
+use Rattle.meaning.proofs.Windows.{rule_9_gives_12, alternative_length}
 use Rattle.meaning.proofs.AnyOn.{AnyOn, any_on_append, one_of_is_on}
 
 module _ (σ Reg : ℕ → ℕ → Bool) where
@@ -201,8 +201,8 @@ module _ (σ Reg : ℕ → ℕ → Bool) where
 
       outward : PairEnds (expand x) (expand y) t → (i : ℕ) × (i ≤ t) × Match σ (within n x y) i (suc t)
       outward (y₂, i, m₂, r₂, (y₁, m₁, w, (u, i', l, l', r₁))) =
-          let e₂ : suc t ≡ i + window_len y₂.steps = alternative-length σ y₂.steps (Ky y₂ m₂) i (suc t) r₂ in
-          let e₁ : suc u ≡ i' + window_len y₁.steps = alternative-length σ y₁.steps (Kx y₁ m₁) i' (suc u) r₁ in
+          let e₂ : suc t ≡ i + window_len y₂.steps = alternative_length σ y₂.steps (Ky y₂ m₂) i (suc t) r₂ in
+          let e₁ : suc u ≡ i' + window_len y₁.steps = alternative_length σ y₁.steps (Kx y₁ m₁) i' (suc u) r₁ in
           let p : i < suc t = alternative_no_empty σ y₂.steps (rule_9_gives_12 y₂.steps (Ky y₂ m₂)) i (suc t) r₂ in
           (i, omega arith, (i', suc u, (seq2 i (suc t)).1 (y₂, m₂, r₂), omega arith, omega arith, (seq1 i' (suc u)).1 (y₁, m₁, r₁)))
 
@@ -211,8 +211,8 @@ module _ (σ Reg : ℕ → ℕ → Bool) where
       inside i i' zero l l' (y₁, m₁, r₁) (y₂, m₂, r₂) =
           absurd (omega (arith, alternative_no_empty σ y₁.steps (rule_9_gives_12 y₁.steps (Kx y₁ m₁)) i' zero r₁))
       inside i i' (suc u) l l' (y₁, m₁, r₁) (y₂, m₂, r₂) =
-          let e₂ : suc t ≡ i + window_len y₂.steps = alternative-length σ y₂.steps (Ky y₂ m₂) i (suc t) r₂ in
-          let e₁ : suc u ≡ i' + window_len y₁.steps = alternative-length σ y₁.steps (Kx y₁ m₁) i' (suc u) r₁ in
+          let e₂ : suc t ≡ i + window_len y₂.steps = alternative_length σ y₂.steps (Ky y₂ m₂) i (suc t) r₂ in
+          let e₁ : suc u ≡ i' + window_len y₁.steps = alternative_length σ y₁.steps (Kx y₁ m₁) i' (suc u) r₁ in
           (y₂, i, m₂, r₂, (y₁, m₁, omega arith, (u, i', omega arith, omega arith, r₁)))
 
       inward : (i : ℕ) × (i ≤ t) × Match σ (within n x y) i (suc t) → PairEnds (expand x) (expand y) t

@@ -50,31 +50,31 @@ no_repetition v p q k l = elim (ℕ_discrete v.max 0) [
 
 -- ---- `counted_word` and `noted`
 
-pub guarded-word : (c : Counts) (bare : ℕ) → c.guarded ≡ true → c.alternatives + 512 * bare + 2097152 ≡ counted_word c bare
+pub guarded_word : (c : Counts) (bare : ℕ) → c.guarded ≡ true → c.alternatives + 512 * bare + 2097152 ≡ counted_word c bare
 unfolding counted_word pick
-guarded-word c bare e = rw e (omega arith)
+guarded_word c bare e = rw e (omega arith)
 
-pub unguarded-word : (c : Counts) (bare : ℕ) → c.guarded ≡ false → c.alternatives + 512 * bare ≡ counted_word c bare
+pub unguarded_word : (c : Counts) (bare : ℕ) → c.guarded ≡ false → c.alternatives + 512 * bare ≡ counted_word c bare
 unfolding counted_word pick
-unguarded-word c bare e = rw e (omega arith)
+unguarded_word c bare e = rw e (omega arith)
 
 -- A node that is counted has at most 256 alternatives.
-pub few-counted : {z : Walked} {c : Counts} → z ≡ Counted c → FewCounted z → c.alternatives ≤ 256
+pub few_counted : {z : Walked} {c : Counts} → z ≡ Counted c → FewCounted z → c.alternatives ≤ 256
 unfolding FewCounted
-few-counted e f = rw e at f
+few_counted e f = rw e at f
 
 -- The word of what is counted is put; after a refusal, none.
-pub word-noted : (o : List ℕ) (n bare : ℕ) {o' : List ℕ} {next word : ℕ} {z : Walked} {c : Counts} → z ≡ Counted c → word ≡ counted_word c bare
+pub word_noted : (o : List ℕ) (n bare : ℕ) {o' : List ℕ} {next word : ℕ} {z : Walked} {c : Counts} → z ≡ Counted c → word ≡ counted_word c bare
     → Wrote o o' n next (word ∷ []) → o' ≡ noted o n bare z
 unfolding noted
-word-noted o n bare e q x = x.holds ∙ rw (q, e) refl
+word_noted o n bare e q x = x.holds ∙ rw (q, e) refl
 
 pub as_it_came : {z : Walked} {c : Counts} → z ≡ Counted c → Counted c ≡ z
 as_it_came e = sym e
 
-pub nothing-noted : (o : List ℕ) (n bare : ℕ) {refusal place : ℕ} {z : Walked} → z ≡ Refused refusal place → o ≡ noted o n bare z
+pub nothing_noted : (o : List ℕ) (n bare : ℕ) {refusal place : ℕ} {z : Walked} → z ≡ Refused refusal place → o ≡ noted o n bare z
 unfolding noted
-nothing-noted o n bare e = rw e refl
+nothing_noted o n bare e = rw e refl
 
 -- ---- an answer that counts
 

@@ -84,9 +84,9 @@ module _ (t : List ℕ) (n : ℕ) (o : List ℕ) {o' : List ℕ} (b room d : ℕ
   word_there long = rw own_word_put (get_or-set_same o n (outline_word (tree_at t n)) 0 (omega arith))
 
   -- Putting the node's own word loses no right word.
-  words-kept : nodes t ≤ length o → (m : ℕ) → Noted t o m → Noted t o' m
+  words_kept : nodes t ≤ length o → (m : ℕ) → Noted t o m → Noted t o' m
   unfolding written
-  words-kept long m N = elim (ℕ_discrete m n) [
+  words_kept long m N = elim (ℕ_discrete m n) [
     | yes same ↦ rw same (word_there long)
     | no other ↦ rw own_word_put (get_or-set_other o n m (outline_word (tree_at t n)) 0 other ∙ N)
   ]
@@ -98,7 +98,7 @@ module _ (t : List ℕ) (n : ℕ) (o : List ℕ) {o' : List ℕ} (b room d : ℕ
   pub alone_notes : nodes t ≤ length o → Alone t n → Notes t n o o'
   alone_notes long A = record {
     known = record { long = still_long long; outline = A.enough o' (word_there long) };
-    kept = words-kept long;
+    kept = words_kept long;
   }
 
   -- A delay notes both operands' words and then its own.
@@ -107,25 +107,25 @@ module _ (t : List ℕ) (n : ℕ) (o : List ℕ) {o' : List ℕ} (b room d : ℕ
   unfolding Outlined
   delay_notes {p = p} {q = q} is P Q =
       let long = Q.known.long in
-      let right = all_kept t o o' (words-kept long) (tree_at t q) Q.known.outline in
-      let one = all_kept t o o' (words-kept long) (tree_at t p) (still_known P.known Q).outline in
+      let right = all_kept t o o' (words_kept long) (tree_at t q) Q.known.outline in
+      let one = all_kept t o o' (words_kept long) (tree_at t p) (still_known P.known Q).outline in
       record {
         known = record { long = still_long long; outline = rw is (one, right, word_there long) };
-        kept = λ m N. words-kept long m (Q.kept m (P.kept m N));
+        kept = λ m N. words_kept long m (Q.kept m (P.kept m N));
       }
 
   -- A node over one visited operand notes the operand's words and then its own.
-  over-one : {o₀ : List ℕ} {p : ℕ} → (Outlined t o' (tree_at t p) → Noted t o' n → Outlined t o' (tree_at t n)) → Notes t p o₀ o → Notes t n o₀ o'
-  over-one {p = p} whole P =
+  over_one : {o₀ : List ℕ} {p : ℕ} → (Outlined t o' (tree_at t p) → Noted t o' n → Outlined t o' (tree_at t n)) → Notes t p o₀ o → Notes t n o₀ o'
+  over_one {p = p} whole P =
       let long = P.known.long in
       record {
-        known = record { long = still_long long; outline = whole (all_kept t o o' (words-kept long) (tree_at t p) P.known.outline) (word_there long) };
-        kept = λ m N. words-kept long m (P.kept m N);
+        known = record { long = still_long long; outline = whole (all_kept t o o' (words_kept long) (tree_at t p) P.known.outline) (word_there long) };
+        kept = λ m N. words_kept long m (P.kept m N);
       }
 
   pub throughout_notes : {o₀ : List ℕ} {a q : ℕ} → tree_at t n ≡ throughout n a (tree_at t q) → Notes t q o₀ o → Notes t n o₀ o'
   unfolding Outlined
-  throughout_notes is Q = over-one (λ under own. rw is (under, own)) Q
+  throughout_notes is Q = over_one (λ under own. rw is (under, own)) Q
 
   pub repeated_notes : {o₀ : List ℕ} {p m x : ℕ} → tree_at t n ≡ consec n (tree_at t p) m (finite x) → 0 < x → Notes t p o₀ o → Notes t n o₀ o'
-  repeated_notes {p = p} {m = m} {x = x} is live P = over-one (λ under own. rw is (copied_outlined t o' n (tree_at t p) m x live under own)) P
+  repeated_notes {p = p} {m = m} {x = x} is live P = over_one (λ under own. rw is (copied_outlined t o' n (tree_at t p) m x live under own)) P

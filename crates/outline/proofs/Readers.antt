@@ -51,20 +51,20 @@ lower t formed (suc fuel) n l inside =
     once under l =
         pick_case (λ (m : ℕ). m ≤ n) (is_once (node_at t n).min (max_of (node_at t n).max)) (λ _. omega arith) (λ _. omega arith)
 
-pub bare-lower : (t : List ℕ) (n : ℕ) → FormedTable t → n < nodes t → bare (tree_at t n) ≤ n
-bare-lower t n formed inside = lower t formed (suc n) n (omega arith) inside
+pub bare_lower : (t : List ℕ) (n : ℕ) → FormedTable t → n < nodes t → bare (tree_at t n) ≤ n
+bare_lower t n formed inside = lower t formed (suc n) n (omega arith) inside
 
 module _ {t : List ℕ} {n : ℕ} (E : Expandable t n) where
   -- A node has at most 256 alternatives.
   pub few_alternatives : length (expand (tree_at t n)) ≤ 256
   few_alternatives = (a_walkable_tree_is_bounded E.room (tree_at t n) E.walkable).few
 
-  few-nodes : bare (tree_at t n) < 4096
-  few-nodes = omega (arith, bare-lower t n E.formed E.inside, E.inside, E.formed.few)
+  few_nodes : bare (tree_at t n) < 4096
+  few_nodes = omega (arith, bare_lower t n E.formed E.inside, E.inside, E.formed.few)
 
   module _ {o : List ℕ} (K : Known t o n) where
-    pub inside-outline : n < length o
-    inside-outline = omega (arith, E.inside, K.long)
+    pub inside_outline : n < length o
+    inside_outline = omega (arith, E.inside, K.long)
 
     word_is : get_or o n 0 ≡ length (expand (tree_at t n)) + 512 * (bare (tree_at t n) + 4096 * guard_flag (tree_at t n))
     unfolding outline_word counted_word counts guard_flag
@@ -74,10 +74,10 @@ module _ {t : List ℕ} {n : ℕ} (E : Expandable t n) where
     unfolding count_in
     count_known = rw word_is (omega (arith, few_alternatives))
 
-    pub bare-known : bare_in o n ≡ bare (tree_at t n)
+    pub bare_known : bare_in o n ≡ bare (tree_at t n)
     unfolding bare_in
-    bare-known = rw word_is (omega (arith, few_alternatives, few-nodes))
+    bare_known = rw word_is (omega (arith, few_alternatives, few_nodes))
 
     pub flag_known : flag_in o n ≡ guard_flag (tree_at t n)
     unfolding flag_in
-    flag_known = rw word_is (omega (arith, few_alternatives, few-nodes))
+    flag_known = rw word_is (omega (arith, few_alternatives, few_nodes))

@@ -15,34 +15,34 @@ use Rattle.meaning.specs.Alternative.{SeqAlt}
 use Rattle.meaning.specs.Expression.{seq}
 use Rattle.term.specs.declared.Kept.{Kept}
 use Rattle.term.specs.Keeping.{guard_of, without_guard, Whole}
-use Rattle.term.proofs.Keeping.{no_guard, whole-without_guard}
+use Rattle.term.proofs.Keeping.{no_guard, whole_without_guard}
 use Rattle.step_text.specs.Text.{register_word, and_word, or_word, store_word}
 use Rattle.pipeline.specs.Stores.{delay_store_words, alternative_store_words}
 use Rattle.pipeline.proofs.Laws.{fixed_rest_room, fixed_done}
 use Rattle.alternative.specs.Alternatives.{registers_in}
 use Rattle.alternative.specs.Keeping.{Holds, kept_text}
-use Rattle.alternative.proofs.Laws.{kept-registers, kept-stores, kept_texts, placed}
+use Rattle.alternative.proofs.Laws.{kept_registers, kept_stores, kept_texts, placed}
 use Rattle.pair.specs.declared.Pair.{Pair}
 use Rattle.pair.specs.Pairs.{Fitted, delay_texts, joining, pair_registers, pair_stores, pair_text, slide_store_words, slid_text_words, kept_pair_registers, first_delay, kept_pair_stores, kept_pair_text, Slid, PlacedPair, Marked}
 use Rattle.pair.proofs.Delays.{length-ored}
 
 -- The delays of a text take no guard.
 module _ (W : List ℕ) (a : Kept) {bare : Kept} (e : bare ≡ without_guard a) where
-  pub slide-whole : Whole W a → Whole W bare
-  slide-whole whole = rw e (whole-without_guard whole)
+  pub slide_whole : Whole W a → Whole W bare
+  slide_whole whole = rw e (whole_without_guard whole)
 
-  bare-guard : guard_of W bare ≡ []
-  bare-guard = rw e (no_guard W a)
+  bare_guard : guard_of W bare ≡ []
+  bare_guard = rw e (no_guard W a)
 
   module _ (r : ℕ) {d : ℕ} (some : d ≡ 0 → ⊥) {at u v : ℕ} {o o₁ o₂ : List ℕ} (x : Wrote o o₁ at u (kept_text W a))
       (y : Wrote o₁ o₂ u v (store_word seq r ∷ [])) where
     pub slide_rest_room : at + length (slide_store_words W a r d) ≤ length o
         → v + length (delay_store_words (guard_of W bare) (r + 1) (d - 1) (register_word (r + 1 - 1) ∷ guard_of W bare)) ≤ length o₂
-    slide_rest_room h = rw bare-guard (fixed_rest_room [] r (kept_text W a) some h x y)
+    slide_rest_room h = rw bare_guard (fixed_rest_room [] r (kept_text W a) some h x y)
 
     pub slide_done : {p : ℕ} {o₃ : List ℕ} → Wrote o₂ o₃ v p (delay_store_words (guard_of W bare) (r + 1) (d - 1) (register_word (r + 1 - 1) ∷ guard_of W bare))
         → Wrote o o₃ at p (slide_store_words W a r d)
-    slide_done z = fixed_done [] r (kept_text W a) some x y (rw bare-guard at z)
+    slide_done z = fixed_done [] r (kept_text W a) some x y (rw bare_guard at z)
 
 -- The text of an alternative with the registers behind its own ORed to it.
 module _ (W : List ℕ) (a : Kept) (r d : ℕ) where
@@ -66,8 +66,8 @@ module _ (before : ℕ) where
     unfolding joining
     joins_one = ap (λ (ws : List ℕ). and_word ∷ ws) (pick_false _ _ (ne_eqb before 0 some))
 
-    pub joining-room : {at u : ℕ} {o o₁ : List ℕ} → at + length (and_word ∷ joining before) ≤ length o → Wrote o o₁ at u (and_word ∷ []) → u < length o₁
-    joining-room h x = omega (arith, second_room (and_word ∷ []) (or_word ∷ []) joins_one h x)
+    pub joining_room : {at u : ℕ} {o o₁ : List ℕ} → at + length (and_word ∷ joining before) ≤ length o → Wrote o o₁ at u (and_word ∷ []) → u < length o₁
+    joining_room h x = omega (arith, second_room (and_word ∷ []) (or_word ∷ []) joins_one h x)
 
     pub joined_done : {at u p : ℕ} {o o₁ o₂ : List ℕ} → Wrote o o₁ at u (and_word ∷ []) → Wrote o₁ o₂ u p (or_word ∷ []) → Wrote o o₂ at p (and_word ∷ joining before)
     joined_done x y = both_done joins_one x y
@@ -99,15 +99,15 @@ module _ (W : List ℕ) (pair : Pair) where
     unfolding kept_pair_stores
     slide_stores_room h x = rw e (second_room (alternative_store_words W pair.one) _ refl h x)
 
-    next-register : r + pair.delays ≡ pair.one.register + kept_pair_registers W pair
+    next_register : r + pair.delays ≡ pair.one.register + kept_pair_registers W pair
     unfolding kept_pair_registers
-    next-register = omega (arith, e)
+    next_register = omega (arith, e)
 
     pub pair_stores_done : {at u p : ℕ} {o o₁ o₂ : List ℕ} → Wrote o o₁ at u (alternative_store_words W pair.one)
         → Wrote o₁ o₂ u p (slide_store_words W pair.one r pair.delays)
         → Marked o o₂ at (record { place = p; register = r + pair.delays }) (kept_pair_stores W pair) (pair.one.register + kept_pair_registers W pair)
     unfolding kept_pair_stores
-    pair_stores_done x y = record { wrote = both_done refl x (rw e at y); next = next-register }
+    pair_stores_done x y = record { wrote = both_done refl x (rw e at y); next = next_register }
 
     -- Its text: that of seq2's alternative, of seq1's with its delays, and what closes it.
     module _ (before : ℕ) where
@@ -117,15 +117,15 @@ module _ (W : List ℕ) (pair : Pair) where
         one_text_room =
             rw e (first_room u (slid_text_words W pair.one _ pair.delays) (and_word ∷ joining before) refl (second_room (kept_text W pair.two) _ refl h x))
 
-        pub closing-room : {v : ℕ} {o₂ : List ℕ} → Wrote o₁ o₂ u v (slid_text_words W pair.one r pair.delays) → v + length (and_word ∷ joining before) ≤ length o₂
+        pub closing_room : {v : ℕ} {o₂ : List ℕ} → Wrote o₁ o₂ u v (slid_text_words W pair.one r pair.delays) → v + length (and_word ∷ joining before) ≤ length o₂
         unfolding kept_pair_text
-        closing-room y = third_room (kept_text W pair.two) (slid_text_words W pair.one _ pair.delays) (and_word ∷ joining before) refl h x (rw e at y)
+        closing_room y = third_room (kept_text W pair.two) (slid_text_words W pair.one _ pair.delays) (and_word ∷ joining before) refl h x (rw e at y)
 
       pub pair_text_done : {at u v p : ℕ} {o o₁ o₂ o₃ : List ℕ} → Wrote o o₁ at u (kept_text W pair.two)
           → Wrote o₁ o₂ u v (slid_text_words W pair.one r pair.delays) → Wrote o₂ o₃ v p (and_word ∷ joining before)
           → Marked o o₃ at (record { place = p; register = r + pair.delays }) (kept_pair_text W pair before) (pair.one.register + kept_pair_registers W pair)
       unfolding kept_pair_text
-      pair_text_done x y z = record { wrote = three_done refl x (rw e at y) z; next = next-register }
+      pair_text_done x y z = record { wrote = three_done refl x (rw e at y) z; next = next_register }
 
   pub two_text_room : (before at : ℕ) {n : ℕ} → at + length (kept_pair_text W pair before) ≤ n → at + length (kept_text W pair.two) ≤ n
   unfolding kept_pair_text
@@ -138,14 +138,14 @@ module _ {W : List ℕ} (pair : Pair) {y : SeqAlt} {r : ℕ} (H : Holds W pair.o
 
   pub registers_of_pair : kept_pair_registers W pair ≡ pair_registers fits
   unfolding kept_pair_registers pair_registers
-  registers_of_pair = ap (λ (k : ℕ). k + pair.delays) (kept-registers H)
+  registers_of_pair = ap (λ (k : ℕ). k + pair.delays) (kept_registers H)
 
   delays_begin : first_delay W pair ≡ r + registers_in y
-  delays_begin = omega (arith, H.register, kept-registers H)
+  delays_begin = omega (arith, H.register, kept_registers H)
 
   pub stores_of_pair : kept_pair_stores W pair ≡ pair_stores fits r
   unfolding kept_pair_stores pair_stores
-  stores_of_pair = rw (kept-stores H, kept_texts H, delays_begin) refl
+  stores_of_pair = rw (kept_stores H, kept_texts H, delays_begin) refl
 
   pub text_of_pair : (before : ℕ) → kept_pair_text W pair before ≡ pair_text before (kept_text W pair.two) fits r
   unfolding kept_pair_text pair_text

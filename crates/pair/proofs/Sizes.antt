@@ -11,11 +11,11 @@ use Rattle.step_text.specs.Text.{and_word}
 use Rattle.sizes.specs.Sizes.{delays_size, most_store_words, most_words}
 use Rattle.sizes.specs.declared.Size.{Size}
 use Rattle.sizes.proofs.Laws.{delays_small}
-use Rattle.sizes.proofs.Lengths.{delays-length}
+use Rattle.sizes.proofs.Lengths.{delays_length}
 use Rattle.term.specs.declared.Kept.{Kept}
 use Rattle.alternative.specs.Alternatives.{registers_in, stores_in, text_in}
 use Rattle.alternative.specs.Keeping.{Holds, kept_size}
-use Rattle.alternative.proofs.Laws.{kept-stores, kept_texts, as_long_stores, as_long_a_text}
+use Rattle.alternative.proofs.Laws.{kept_stores, kept_texts, as_long_stores, as_long_a_text}
 use Rattle.pair.specs.Pairs.{Fitted, delay_texts, joining, pair_stores, pair_text}
 use Rattle.pair.specs.Sizes.{size_in, pair_size_of, pair_size, longest_text}
 use Rattle.pair.proofs.Delays.{length-ored}
@@ -23,7 +23,7 @@ use Rattle.pair.proofs.Delays.{length-ored}
 -- One alternative.
 pub size_of_kept : {W : List ℕ} {a : Kept} {y : SeqAlt} → Holds W a y 0 → kept_size W a ≡ size_in y
 unfolding kept_size size_in
-size_of_kept H = rw (kept_texts H, kept-stores H) refl
+size_of_kept H = rw (kept_texts H, kept_stores H) refl
 
 -- A pair.
 pub length-pair_stores : (two : ℕ) (f : Fitted) (r : ℕ) → length (pair_stores f r) ≡ (pair_size two f).stores
@@ -32,7 +32,7 @@ length-pair_stores two f r =
     let y = f.alternative in
     length-append (stores_in y r) _
     ∙ ap₂ (λ (i j : ℕ). i + j) (as_long_stores y r)
-    (delays-length [] (r + registers_in y) f.delays (text_in y r) ∙ ap (delays_size 0 f.delays) (as_long_a_text y r))
+    (delays_length [] (r + registers_in y) f.delays (text_in y r) ∙ ap (delays_size 0 f.delays) (as_long_a_text y r))
 
 pub length-pair_text : (before : ℕ) (match_2 : List ℕ) (f : Fitted) (r : ℕ)
     → length (pair_text before match_2 f r) + 1 ≡ (pair_size (length match_2) f).text + length (joining before)

@@ -33,10 +33,10 @@ choose true after fixed rest others e = refl
 choose false true fixed rest others e = refl
 choose false false fixed rest others e = e refl
 
-fit-step : (before : Bool) (s : SeqStep) (ss : List SeqStep)
+fit_step : (before : Bool) (s : SeqStep) (ss : List SeqStep)
     → empties_fit before (s ∷ ss) ≡ pick (hop_fits before (is_empty s.term) s.hop) (empties_fit (is_empty s.term) ss) false
 unfolding hop_fits
-fit-step before s ss =
+fit_step before s ss =
     choose before (is_empty s.term) (fixed_from_1 s.hop) (empties_fit (is_empty s.term) ss) (empties_fit false ss) (λ e. ap (λ (b : Bool). empties_fit b ss) (sym e))
 
 -- The loop of `empties_fit`: the hops before the k-th fit, so the answer is that of the others.
@@ -44,8 +44,8 @@ pub record Fitting (W : List ℕ) (a : Kept) (before : Bool) (k : ℕ) : Type 0 
   pub turn : k ≤ a.steps
   pub rest : empties_fit false (steps_from W a 1 (a.steps - 1)) ≡ empties_fit before (steps_from W a k (a.steps - k))
 
-pub fitting-begins : {W : List ℕ} {a : Kept} → Whole W a → Fitting W a false 1
-fitting-begins whole = record { turn = whole.some; rest = refl }
+pub fitting_begins : {W : List ℕ} {a : Kept} → Whole W a → Fitting W a false 1
+fitting_begins whole = record { turn = whole.some; rest = refl }
 
 module _ {W : List ℕ} {a : Kept} {before : Bool} {k : ℕ} (F : Fitting W a before k) where
   module _ (h : k < a.steps) {s : SeqStep} {after b : Bool} (w : s ≡ step_of W a k) (e : after ≡ is_empty s.term) (f : b ≡ hop_fits before after s.hop) where
@@ -53,7 +53,7 @@ module _ {W : List ℕ} {a : Kept} {before : Bool} {k : ℕ} (F : Fitting W a be
     unfolding steps_from
     fit_here =
         let n : a.steps - k ≡ suc (a.steps - (k + 1)) = omega (arith, h) in
-        rw (n, add-one k, ← w) (fit-step before s (steps_from W a (suc k) (a.steps - (suc k))) ∙ rw (← e, ← f) refl)
+        rw (n, add-one k, ← w) (fit_step before s (steps_from W a (suc k) (a.steps - (suc k))) ∙ rw (← e, ← f) refl)
 
     pub fitting_on : not b ≡ false → Fitting W a after (k + 1)
     fitting_on q = record { turn = omega (arith, h); rest = F.rest ∙ fit_here ∙ pick_true _ _ (not-false b q) }
@@ -61,9 +61,9 @@ module _ {W : List ℕ} {a : Kept} {before : Bool} {k : ℕ} (F : Fitting W a be
     pub fitting_fails : not b ≡ true → false ≡ empties_fit false (steps_from W a 1 (a.steps - 1))
     fitting_fails q = sym (F.rest ∙ fit_here ∙ pick_false _ _ (not-true b q))
 
-  pub fitting-ends : a.steps ≤ k → true ≡ empties_fit false (steps_from W a 1 (a.steps - 1))
+  pub fitting_ends : a.steps ≤ k → true ≡ empties_fit false (steps_from W a 1 (a.steps - 1))
   unfolding steps_from
-  fitting-ends h = let e : a.steps - k ≡ 0 = omega (arith, h) in sym (F.rest ∙ rw e refl)
+  fitting_ends h = let e : a.steps - k ≡ 0 = omega (arith, h) in sym (F.rest ∙ rw e refl)
 
 -- `steps_fit`: the first term, then the others.
 module _ {W : List ℕ} {a : Kept} {s : SeqStep} {b : Bool} (whole : Whole W a) (w : s ≡ step_of W a 0) (e : b ≡ is_empty s.term) where

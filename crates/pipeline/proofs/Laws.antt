@@ -13,7 +13,7 @@ use Rattle.words.specs.Written.{Wrote}
 use Rattle.words.proofs.Laws.{Going, begin, go, done, still_long, same_words, same_room, first_room, second_room, two_parts, both_done, third_room, three_parts, three_done, nothing_written}
 use Rattle.term.specs.declared.Kept.{Kept}
 use Rattle.term.specs.Keeping.{step_of, without_guard, Whole}
-use Rattle.term.proofs.Keeping.{no_guard, whole-without_guard}
+use Rattle.term.proofs.Keeping.{no_guard, whole_without_guard}
 use Rattle.meaning.specs.Expression.{seq, arm}
 use Rattle.meaning.specs.declared.SeqTerm.{SeqTerm}
 use Rattle.meaning.specs.declared.SeqTerm.TheVariants.{Bool as BoolTerm, Goto, Nonconsec, ConsecAtLeast, Empty}
@@ -34,8 +34,8 @@ pub after_one : {o o₁ o₂ o₃ E ws : List ℕ} {at p₁ p₂ p w : ℕ} → 
 after_one x y z = three_parts x y z
 
 -- The loop of `delays`: i delays are written.
-abbrev delay-words : List ℕ → ℕ → List ℕ
-delay-words G r = register_word (r - 1) ∷ (G ++ (store_word seq r ∷ []))
+abbrev delay_words : List ℕ → ℕ → List ℕ
+delay_words G r = register_word (r - 1) ∷ (G ++ (store_word seq r ∷ []))
 
 pub record Delaying (G o : List ℕ) (at r d : ℕ) (o' : List ℕ) (p i : ℕ) : Type 0 where
   pub turn : i ≤ d
@@ -47,27 +47,27 @@ delaying_begins G o at r d = record { turn = omega arith; long = refl; going = r
 
 module _ {G o : List ℕ} {at r d : ℕ} {o' : List ℕ} {p i : ℕ} (D : Delaying G o at r d o' p i) where
   module _ (h : i < d) where
-    delay-ahead : more_delays G (r + i) (d - i) ≡ delay-words G (r + i) ++ more_delays G (r + (i + 1)) (d - (i + 1))
+    delay_ahead : more_delays G (r + i) (d - i) ≡ delay_words G (r + i) ++ more_delays G (r + (i + 1)) (d - (i + 1))
     unfolding delay_store_words
-    delay-ahead =
+    delay_ahead =
         let e : d - i ≡ suc (d - (i + 1)) = omega (arith, h) in
         let f : r + (i + 1) ≡ suc (r + i) = omega arith in
         let f' : suc (r + i) - 1 ≡ r + i = omega arith in
         rw (e, f, f') (ap (λ (l : List ℕ). register_word (r + i - 1) ∷ l) (sym (append_assoc G (store_word seq (r + i) ∷ []) (delay_store_words G (suc (r + i)) (d - (i + 1)) (register_word (r + i) ∷ G)))))
 
-    delay_onward : Going o at (more_delays G r d) o' p (delay-words G (r + i) ++ more_delays G (r + (i + 1)) (d - (i + 1)))
-    delay_onward = rw delay-ahead at D.going
+    delay_onward : Going o at (more_delays G r d) o' p (delay_words G (r + i) ++ more_delays G (r + (i + 1)) (d - (i + 1)))
+    delay_onward = rw delay_ahead at D.going
 
     pub delaying_room : at + length (more_delays G r d) ≤ length o → p + (2 + length G) ≤ length o'
     delaying_room F =
-        let all : p + length (delay-words G (r + i) ++ more_delays G (r + (i + 1)) (d - (i + 1))) ≤ length o' = omega (arith, delay_onward.place, D.long, F) in
-        omega (arith, first_room p (delay-words G (r + i)) (more_delays G (r + (i + 1)) (d - (i + 1))) refl all, length-append G (store_word seq (r + i) ∷ []))
+        let all : p + length (delay_words G (r + i) ++ more_delays G (r + (i + 1)) (d - (i + 1))) ≤ length o' = omega (arith, delay_onward.place, D.long, F) in
+        omega (arith, first_room p (delay_words G (r + i)) (more_delays G (r + (i + 1)) (d - (i + 1))) refl all, length-append G (store_word seq (r + i) ∷ []))
 
     pub delaying_on : {o₁ : List ℕ} {p₁ : ℕ} → Wrote o' o₁ p p₁ (register_word (r + i - 1) ∷ (G ++ (store_word seq (r + i) ∷ []))) → Delaying G o at r d o₁ p₁ (i + 1)
     delaying_on {o₁} {p₁} w = record { turn = omega (arith, h); long = next.long; going = next }
       where
         next : Going o at (more_delays G r d) o₁ p₁ (more_delays G (r + (i + 1)) (d - (i + 1)))
-        next = go (delay-words G (r + i)) _ delay_onward w
+        next = go (delay_words G (r + i)) _ delay_onward w
 
   pub delaying_ends : d ≤ i → Wrote o o' at p (more_delays G r d)
   unfolding delay_store_words
@@ -103,39 +103,39 @@ module _ (G : List ℕ) (r : ℕ) (E : List ℕ) {d : ℕ} (z : d ≡ 0 → ⊥)
 -- `late_latch`: its delays are under the guard of g, which has none.
 module _ (W : List ℕ) (a : Kept) {g : Kept} (e : g ≡ without_guard a) where
   pub no_guard_whole : Whole W a → Whole W g
-  no_guard_whole whole = rw e (whole-without_guard whole)
+  no_guard_whole whole = rw e (whole_without_guard whole)
 
   module _ (k r d : ℕ) where
-    unguarded-delays : delays_at W a g k r d ≡ delay_store_words [] r d (text_before W a k r)
-    unguarded-delays = ap (λ (G : List ℕ). delay_store_words G r d (text_before W a k r)) (rw e (no_guard W a))
+    unguarded_delays : delays_at W a g k r d ≡ delay_store_words [] r d (text_before W a k r)
+    unguarded_delays = ap (λ (G : List ℕ). delay_store_words G r d (text_before W a k r)) (rw e (no_guard W a))
 
     pub late_delays_room : (at : ℕ) {n : ℕ} → at + (4 + length (delay_store_words [] r d (text_before W a k r))) ≤ n → at + length (delays_at W a g k r d) ≤ n
-    late_delays_room at h = omega (arith, h, ap length unguarded-delays)
+    late_delays_room at h = omega (arith, h, ap length unguarded_delays)
 
     module _ {at p₁ : ℕ} {o o₁ : List ℕ} (u : Wrote o o₁ at p₁ (delays_at W a g k r d)) where
       pub late_latch_room : at + (4 + length (delay_store_words [] r d (text_before W a k r))) ≤ length o → p₁ + 4 ≤ length o₁
-      late_latch_room h = omega (arith, h, u.ends, still_long u, ap length unguarded-delays)
+      late_latch_room h = omega (arith, h, u.ends, still_long u, ap length unguarded_delays)
 
       pub late_latch_done : {p : ℕ} {o₂ ws : List ℕ} → Wrote o₁ o₂ p₁ p ws → Wrote o o₂ at p (delay_store_words [] r d (text_before W a k r) ++ ws)
-      late_latch_done v = two_parts (same_words unguarded-delays u) v
+      late_latch_done v = two_parts (same_words unguarded_delays u) v
 
 -- `at_least`: a latch, or one after delays.
 module _ (G : List ℕ) (r m : ℕ) (E : List ℕ) where
-  latch-words : m < 2 → hop_store_words G r (AtLeast m) E ≡ register_word r ∷ (E ++ (or_word ∷ store_word arm r ∷ []))
+  latch_words : m < 2 → hop_store_words G r (AtLeast m) E ≡ register_word r ∷ (E ++ (or_word ∷ store_word arm r ∷ []))
   unfolding hop_store_words
-  latch-words h = pick_true _ _ (lt-ltb m 2 h)
+  latch_words h = pick_true _ _ (lt-ltb m 2 h)
 
   late_stores_are : 2 ≤ m → hop_store_words G r (AtLeast m) E ≡ delay_store_words [] r (m - 1) E ++ late_latch_words r m
   unfolding hop_store_words
   late_stores_are h = pick_false _ _ (le-ltb m 2 h)
 
-  pub latch-room : (at : ℕ) {n : ℕ} → m < 2 → at + length (hop_store_words G r (AtLeast m) E) ≤ n → at + (3 + length E) ≤ n
-  latch-room at {n} h q =
-      let q' : at + length (register_word r ∷ (E ++ (or_word ∷ store_word arm r ∷ []))) ≤ n = same_room at (latch-words h) q in
+  pub latch_room : (at : ℕ) {n : ℕ} → m < 2 → at + length (hop_store_words G r (AtLeast m) E) ≤ n → at + (3 + length E) ≤ n
+  latch_room at {n} h q =
+      let q' : at + length (register_word r ∷ (E ++ (or_word ∷ store_word arm r ∷ []))) ≤ n = same_room at (latch_words h) q in
       omega (arith, q', length-append E (or_word ∷ store_word arm r ∷ []))
 
   pub latch_done : {at p : ℕ} {o o₁ : List ℕ} → m < 2 → Wrote o o₁ at p (register_word r ∷ (E ++ (or_word ∷ store_word arm r ∷ []))) → Wrote o o₁ at p (hop_store_words G r (AtLeast m) E)
-  latch_done h w = same_words (sym (latch-words h)) w
+  latch_done h w = same_words (sym (latch_words h)) w
 
   pub late_room : (at : ℕ) {n : ℕ} → 2 ≤ m → at + length (hop_store_words G r (AtLeast m) E) ≤ n → at + (4 + length (delay_store_words [] r (m - 1) E)) ≤ n
   late_room at {n} h q =
@@ -177,15 +177,15 @@ no_machine Empty q activation e = refl
 
 -- `later`: the k-th step read as s, its hop h, its term's first register q.
 module _ {W : List ℕ} {a : Kept} {k r : ℕ} {s : SeqStep} (R : Ready W a k r) (z : 0 < k) (w : s ≡ step_of W a k) where
-  later-fits : StepFits r s
-  later-fits = piece_later (record { whole = R.whole; among = R.among; high = R.high }) w z
+  later_fits : StepFits r s
+  later_fits = piece_later (record { whole = R.whole; among = R.among; high = R.high }) w z
 
   pub later_small : r + step_registers s ≤ 65536
-  later_small = later-fits.high
+  later_small = later_fits.high
 
   module _ {q : ℕ} (i : q ≡ r + hop_registers (reach s)) where
     pub later_term_fits : TermFits q s.term
-    later_term_fits = term_small s r i later-fits
+    later_term_fits = term_small s r i later_fits
 
     module _ {h : SeqHop} (e : h ≡ reach s) where
       step_parts : step_store_words W a k r ≡ hop_stores_at W a k r h ++ term_store_words q s.term (activation_at W a k r)
@@ -215,15 +215,15 @@ pub record Storing (W : List ℕ) (a : Kept) (o : List ℕ) (at : ℕ) (o' : Lis
 
 module _ {W : List ℕ} {a : Kept} (P : Placed W a) where
   -- Registers up to the k-th step.
-  registers-high : (k : ℕ) → k < a.steps → a.register + registers_before W a k + registers_at W a k ≤ 65536
-  registers-high k h = omega (arith, P.registers, registers_more W a k, registers_grow W a (k + 1) a.steps (omega (arith, h)))
+  registers_high : (k : ℕ) → k < a.steps → a.register + registers_before W a k + registers_at W a k ≤ 65536
+  registers_high k h = omega (arith, P.registers, registers_more W a k, registers_grow W a (k + 1) a.steps (omega (arith, h)))
 
   none_before : registers_before W a 0 ≡ 0
   unfolding registers_before
   none_before = refl
 
   pub first_high : a.register + registers_at W a 0 ≤ 65536
-  first_high = omega (arith, registers-high 0 P.whole.some, none_before)
+  first_high = omega (arith, registers_high 0 P.whole.some, none_before)
 
   pub storing_begins : (o : List ℕ) (at : ℕ) {r : ℕ} → r ≡ a.register + registers_at W a 0 → Storing W a o at o at 1 r
   storing_begins o at e = record {
@@ -235,12 +235,12 @@ module _ {W : List ℕ} {a : Kept} (P : Placed W a) where
   }
 
   pub ready_at : (k : ℕ) {r : ℕ} → k < a.steps → r ≡ a.register + registers_before W a k → Ready W a k r
-  ready_at k h e = record { whole = P.whole; among = h; low = omega (arith, e); high = omega (arith, e, registers-high k h) }
+  ready_at k h e = record { whole = P.whole; among = h; low = omega (arith, e); high = omega (arith, e, registers_high k h) }
 
   module _ {o : List ℕ} {at : ℕ} {o' : List ℕ} {p k r : ℕ} (D : Storing W a o at o' p k r) where
     module _ (h : k < a.steps) where
       pub storing_high : r + registers_at W a k ≤ 65536
-      storing_high = omega (arith, D.register, registers-high k h)
+      storing_high = omega (arith, D.register, registers_high k h)
 
       pub storing_ready : Ready W a k r
       storing_ready = ready_at k h D.register
@@ -248,10 +248,10 @@ module _ {W : List ℕ} {a : Kept} (P : Placed W a) where
       pub storing_later : 0 < k
       storing_later = D.later
 
-      abbrev steps-behind : List ℕ
-      steps-behind = store_words_after W a (k + 1 - 1) (a.register + registers_before W a (k + 1 - 1)) (a.steps - (k + 1))
+      abbrev steps_behind : List ℕ
+      steps_behind = store_words_after W a (k + 1 - 1) (a.register + registers_before W a (k + 1 - 1)) (a.steps - (k + 1))
 
-      steps_onward : Going o at (later_store_words W a) o' p (step_store_words W a k r ++ steps-behind)
+      steps_onward : Going o at (later_store_words W a) o' p (step_store_words W a k r ++ steps_behind)
       unfolding store_words_after
       steps_onward =
           let e : a.steps - k ≡ suc (a.steps - (k + 1)) = omega (arith, h) in
@@ -261,7 +261,7 @@ module _ {W : List ℕ} {a : Kept} (P : Placed W a) where
           rw (i, ← D.register) (rw (e, f, g) at D.going)
 
       pub storing_room : at + length (later_store_words W a) ≤ length o → p + length (step_store_words W a k r) ≤ length o'
-      storing_room F = first_room p (step_store_words W a k r) steps-behind refl (omega (arith, steps_onward.place, D.long, F))
+      storing_room F = first_room p (step_store_words W a k r) steps_behind refl (omega (arith, steps_onward.place, D.long, F))
 
       pub storing_on : {o₁ : List ℕ} {p₁ q : ℕ} → q ≡ r + registers_at W a k → Wrote o' o₁ p p₁ (step_store_words W a k r) → Storing W a o at o₁ p₁ (k + 1) q
       storing_on {o₁} {p₁} {q} e w = record {
@@ -272,34 +272,34 @@ module _ {W : List ℕ} {a : Kept} (P : Placed W a) where
         going = next;
       }
         where
-          next : Going o at (later_store_words W a) o₁ p₁ steps-behind
-          next = go (step_store_words W a k r) steps-behind steps_onward w
+          next : Going o at (later_store_words W a) o₁ p₁ steps_behind
+          next = go (step_store_words W a k r) steps_behind steps_onward w
 
     pub storing_ends : a.steps ≤ k → Wrote o o' at p (later_store_words W a)
     unfolding store_words_after
     storing_ends h = let e : a.steps - k ≡ 0 = omega (arith, h) in done (rw e at D.going)
 
   -- `stores`: the first term's, then the later steps'.
-  pub seed-ready : Ready W a 0 a.register
-  seed-ready = ready_at 0 P.whole.some (omega (arith, none_before))
+  pub seed_ready : Ready W a 0 a.register
+  seed_ready = ready_at 0 P.whole.some (omega (arith, none_before))
 
   module _ {s : SeqStep} (w : s ≡ step_of W a 0) where
-    pub seed-fits : TermFits a.register s.term
-    seed-fits = piece_first (record { whole = P.whole; among = P.whole.some; high = first_high }) w refl
+    pub seed_fits : TermFits a.register s.term
+    seed_fits = piece_first (record { whole = P.whole; among = P.whole.some; high = first_high }) w refl
 
-    abbrev seed-words : List ℕ
-    seed-words = term_store_words a.register s.term (activation_at W a 0 a.register)
+    abbrev seed_words : List ℕ
+    seed_words = term_store_words a.register s.term (activation_at W a 0 a.register)
 
-    all_parts : alternative_store_words W a ≡ seed-words ++ later_store_words W a
+    all_parts : alternative_store_words W a ≡ seed_words ++ later_store_words W a
     unfolding alternative_store_words activation_at
     all_parts = rw w refl
 
-    pub seed-room : (at : ℕ) {n : ℕ} → at + length (alternative_store_words W a) ≤ n → at + length seed-words ≤ n
-    seed-room at h = first_room at seed-words (later_store_words W a) all_parts h
+    pub seed_room : (at : ℕ) {n : ℕ} → at + length (alternative_store_words W a) ≤ n → at + length seed_words ≤ n
+    seed_room at h = first_room at seed_words (later_store_words W a) all_parts h
 
-    module _ {at p₁ : ℕ} {o o₁ : List ℕ} (u : Wrote o o₁ at p₁ seed-words) where
-      pub laters-room : at + length (alternative_store_words W a) ≤ length o → p₁ + length (later_store_words W a) ≤ length o₁
-      laters-room h = second_room seed-words (later_store_words W a) all_parts h u
+    module _ {at p₁ : ℕ} {o o₁ : List ℕ} (u : Wrote o o₁ at p₁ seed_words) where
+      pub laters_room : at + length (alternative_store_words W a) ≤ length o → p₁ + length (later_store_words W a) ≤ length o₁
+      laters_room h = second_room seed_words (later_store_words W a) all_parts h u
 
       pub stores_done : {p : ℕ} {o₂ : List ℕ} → Wrote o₁ o₂ p₁ p (later_store_words W a) → Wrote o o₂ at p (alternative_store_words W a)
       stores_done v = both_done all_parts u v

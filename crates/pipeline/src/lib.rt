@@ -4,8 +4,7 @@
 // Example: the steps Bool(0), Bool(1) after Fixed(2) give a0 any seq0 r0 seq1.
 #![tactic(auto)]
 
-ghost use Rattle.std.specs.Prelude.{◌≡◌, [], ◌∷◌, ◌++◌, ◌+◌, ◌-◌, ◌≤◌, ◌<◌, length};
-ghost use Rattle.std.proofs.Math.Bool.{«false»};
+ghost use Rattle.std.specs.Prelude.{◌≡◌, false, [], ◌∷◌, ◌++◌, ◌+◌, ◌-◌, ◌≤◌, ◌<◌, length};
 ghost use Rattle.words.specs.Written.{Wrote};
 ghost use Rattle.meaning.specs.Expression.{seq, arm};
 ghost use Rattle.meaning.specs.Refusals.{fixed_from_1, empties_fit, steps_fit};
@@ -213,7 +212,7 @@ fn hop_fits(before: bool, after: bool, h: meaning::SeqHop) -> bool
 // Refusal 12 of the steps after the first, which is not Empty.
 fn empties_fit(work: &[u32], kept: term::Kept) -> bool
     requires { Whole work.now kept }
-    ensures { result ≡ empties_fit «false» (steps_from work.now kept 1 (kept.steps - 1)) }
+    ensures { result ≡ empties_fit false (steps_from work.now kept 1 (kept.steps - 1)) }
 {
     let mut before = false;
     let mut k = 1;

@@ -25,14 +25,14 @@ module _ (rows : List ℕ) (width b i : ℕ) where
   counted_often false n j x = goto_often (recorded rows width) b n i j x
 
   -- The n-th b is an end, whether the run may go on or not.
-  counted-goto : (goes_on : Bool) (n j : ℕ) → GotoRuns (recorded rows width) b n i j → Counted goes_on rows width b n i j
-  counted-goto true n j x = goto_often (recorded rows width) b n i j x
-  counted-goto false n j x = x
+  counted_goto : (goes_on : Bool) (n j : ℕ) → GotoRuns (recorded rows width) b n i j → Counted goes_on rows width b n i j
+  counted_goto true n j x = goto_often (recorded rows width) b n i j x
+  counted_goto false n j x = x
 
   -- No run is empty where n is not 0.
-  counted-later : (goes_on : Bool) (n j : ℕ) → 0 < n → Counted goes_on rows width b n i j → i < j
-  counted-later goes_on zero j h x = absurd (omega arith)
-  counted-later goes_on (suc n) j h x =
+  counted_later : (goes_on : Bool) (n j : ℕ) → 0 < n → Counted goes_on rows width b n i j → i < j
+  counted_later goes_on zero j h x = absurd (omega arith)
+  counted_later goes_on (suc n) j h x =
       let (t, l, l', _, _, _) = last_of_often (recorded rows width) b n i j (counted_often goes_on (suc n) j x) in omega arith
 
   -- The next end is none where b does not hold at the tick and the run may not go on.
@@ -48,7 +48,7 @@ module _ (rows : List ℕ) (width b i : ℕ) where
     is_end : (here goes_on : Bool) (n : ℕ) → here ≡ recorded rows width t b → seen + bool_byte here ≡ n → (here || goes_on) ≡ true
         → Counted goes_on rows width b n i (t + 1)
     is_end true goes_on n h e o =
-        counted-goto goes_on n (t + 1) (rw (← e, add-one seen, add-one t) (goto_with (recorded rows width) b seen i t x (subst T h tt)))
+        counted_goto goes_on n (t + 1) (rw (← e, add-one seen, add-one t) (goto_with (recorded rows width) b seen i t x (subst T h tt)))
     is_end false true n h e o =
         subst (λ z. NonconsecRuns (recorded rows width) b z i (t + 1)) e (often_on (recorded rows width) b false seen i t h x)
     is_end false false n h e o = absurd (subst T (sym o) tt)
@@ -75,7 +75,7 @@ counting_begins {goes_on} {rows} {width} {b} {n} {i} {row} h l = record {
   inside = l;
   often = often_none (recorded rows width) b i;
   few = omega arith;
-  gained = gaining_begins row _ (i + 1) (λ j x. omega (arith, counted-later rows width b i goes_on n j h x));
+  gained = gaining_begins row _ (i + 1) (λ j x. omega (arith, counted_later rows width b i goes_on n j h x));
 }
 
 -- A byte for a Boolean is at most 1.

@@ -43,9 +43,9 @@ module _ {rows : List ℕ} {width c i last : ℕ} (row : List ℕ) (s : Last row
   front_long = sym (length-take-le (last + 1) row (omega (arith, s.inside)))
 
   -- The table's row is as long at least.
-  pub front-inside : (tables : List ℕ) (table : ℕ) → table + length row * length row ≤ length tables → i < length row
+  pub front_inside : (tables : List ℕ) (table : ℕ) → table + length row * length row ≤ length tables → i < length row
       → table + i * length row + length (take (last + 1) row) ≤ length tables
-  front-inside tables table h l =
+  front_inside tables table h l =
       omega (arith, row_inside table i (length row) (length tables) h l, front_long, s.inside)
 
   -- If it gained the ends of the table's row, then the row gained those of the throughout.

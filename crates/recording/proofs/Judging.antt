@@ -86,8 +86,8 @@ module _ (t rows : List ℕ) (width answers work : ℕ) {found : Table} (e : fou
     after_the_tree = rw (← e, q) refl
 
     -- A tree that is not refused has few nodes.
-    pub few-nodes : nodes t ≤ 64
-    few-nodes = (a_good_tree t (sym e ∙ q)).few
+    pub few_nodes : nodes t ≤ 64
+    few_nodes = (a_good_tree t (sym e ∙ q)).few
 
     module _ {good : Bool} (g : good ≡ good_rows t rows width) where
       -- Rows that are not good are refused.

@@ -17,7 +17,7 @@ use Rattle.meaning.specs.Kinds.{columns}
 use Rattle.meaning.specs.declared.Part.TheVariants.{Atom}
 use Rattle.meaning.specs.declared.Table.{Table}
 use Rattle.meaning.specs.declared.Table.TheVariants.{Formed, Refused as Misformed}
-use Rattle.meaning.proofs.Formed.{each-passes, a_formed_table}
+use Rattle.meaning.proofs.Formed.{each_passes, a_formed_table}
 use Rattle.recording.specs.Refusals.{over_an_atom, judged_tree, in_the_row, all_in_the_row, ticks_of, good_rows, room_enough, judged_rows, judged}
 use Rattle.recording.specs.Matchable.{Matchable}
 use Rattle.recording.specs.declared.Matched.TheVariants.{Ticks, Refused}
@@ -32,14 +32,14 @@ same_ticks : {n m : ℕ} → Ticks n ≡ Ticks m → n ≡ m
 same_ticks e = cc
 
 -- A node of kind 4 or 5 that passed 6 stands over an atom.
-stands-over_an_atom : (t : List ℕ) (n : ℕ) → over_an_atom t n ≡ true → 4 ≤ (node_at t n).kind → (node_at t n).kind ≤ 5 → (node_at t (node_at t n).p).kind ≡ 1
+stands_over_an_atom : (t : List ℕ) (n : ℕ) → over_an_atom t n ≡ true → 4 ≤ (node_at t n).kind → (node_at t n).kind ≤ 5 → (node_at t (node_at t n).p).kind ≡ 1
 unfolding over_an_atom
-stands-over_an_atom t n e low high = eqb-true _ _ (sym (pick_false _ _ (le-ltb _ _ low) ∙ pick_false _ _ (le-ltb _ _ high)) ∙ e)
+stands_over_an_atom t n e low high = eqb-true _ _ (sym (pick_false _ _ (le-ltb _ _ low) ∙ pick_false _ _ (le-ltb _ _ high)) ∙ e)
 
 -- A goto that passed 6 stands over an atom, as well as a nonconsecutive repetition.
 over_its_atom : (t : List ℕ) (n : ℕ) → over_an_atom t n ≡ true → ((node_at t n).kind ≡ 4) ⊎ ((node_at t n).kind ≡ 5) → (node_at t (node_at t n).p).kind ≡ 1
-over_its_atom t n e (inl goto) = stands-over_an_atom t n e (omega arith) (omega arith)
-over_its_atom t n e (inr nonconsec) = stands-over_an_atom t n e (omega arith) (omega arith)
+over_its_atom t n e (inl goto) = stands_over_an_atom t n e (omega arith) (omega arith)
+over_its_atom t n e (inr nonconsec) = stands_over_an_atom t n e (omega arith) (omega arith)
 
 -- An atom of a node that is in the row stands in it.
 the_atom_is_in_the_row : (t : List ℕ) (width n : ℕ) → in_the_row t width n ≡ true → (columns (node_at t n).kind).p ≡ Atom → (node_at t n).p < width
@@ -47,14 +47,14 @@ unfolding in_the_row pick
 the_atom_is_in_the_row t width n e is = ltb-true _ _ (rw is at e)
 
 -- Where all nodes are in the row, each node is.
-each-in_the_row : (t : List ℕ) (width count : ℕ) → all_in_the_row t width count ≡ true → (n : ℕ) → n < count → in_the_row t width n ≡ true
+each_in_the_row : (t : List ℕ) (width count : ℕ) → all_in_the_row t width count ≡ true → (n : ℕ) → n < count → in_the_row t width n ≡ true
 unfolding all_in_the_row
-each-in_the_row t width zero e n h = absurd (omega arith)
-each-in_the_row t width (suc count) e n h =
+each_in_the_row t width zero e n h = absurd (omega arith)
+each_in_the_row t width (suc count) e n h =
     let (this, others) = both_hold (in_the_row t width count) e in
     elim (ℕ_discrete n count) [
       | yes here ↦ rw here this
-      | no below ↦ each-in_the_row t width count others n (omega arith)
+      | no below ↦ each_in_the_row t width count others n (omega arith)
     ]
 
 -- The ticks are all of the rows.
@@ -90,8 +90,8 @@ an_answer_is_matchable t rows width answers work e =
       checked = tree.checked;
       formed = a_formed_table t tree.checked;
       few = tree.few;
-      over_atoms = λ n h. over_its_atom t n (each-passes 6 (over_an_atom t) (nodes t) 0 Formed tree.repeats n (omega arith) (omega arith));
-      atoms = λ n h. the_atom_is_in_the_row t width n (each-in_the_row t width (nodes t) r.inside n h);
+      over_atoms = λ n h. over_its_atom t n (each_passes 6 (over_an_atom t) (nodes t) 0 Formed tree.repeats n (omega arith) (omega arith));
+      atoms = λ n h. the_atom_is_in_the_row t width n (each_in_the_row t width (nodes t) r.inside n h);
       wide = r.wide;
       counted = sym same;
       even = rw same at (whole_ticks rows r);

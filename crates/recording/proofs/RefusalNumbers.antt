@@ -34,9 +34,9 @@ not_lowered : (t : List ℕ) {number place : ℕ} → table t ≡ Misformed numb
 unfolding lower after_nothing
 not_lowered t e = rw e refl
 
-table-numbered : (t : List ℕ) (found : Table) → table t ≡ found → TableNumbered found
-table-numbered t Formed e = tt
-table-numbered t (Misformed number place) e =
+table_numbered : (t : List ℕ) (found : Table) → table t ≡ found → TableNumbered found
+table_numbered t Formed e = tt
+table_numbered t (Misformed number place) e =
     let (some, few) = rw (not_lowered t e) at (refusals_are_numbered_from_1_to_14 t 0 0 0) in (omega arith, omega arith)
 
 -- The refusal 6 has its number.
@@ -45,22 +45,22 @@ unfolding lowest_failing
 lowest_numbered test zero n = tt
 lowest_numbered test (suc count) n = pick_case TableNumbered (test n) (λ _. lowest_numbered test count (n + 1)) (λ _. omega arith)
 
-and_then-numbered : (first next : Table) → TableNumbered first → TableNumbered next → TableNumbered (and_then first next)
+and_then_numbered : (first next : Table) → TableNumbered first → TableNumbered next → TableNumbered (and_then first next)
 unfolding and_then
-and_then-numbered Formed next p q = q
-and_then-numbered (Misformed number place) next p q = p
+and_then_numbered Formed next p q = q
+and_then_numbered (Misformed number place) next p q = p
 
 tree_numbered : (t : List ℕ) → TableNumbered (judged_tree t)
 unfolding judged_tree
 tree_numbered t =
     pick_case TableNumbered (ltb 64 (nodes t)) (λ _. omega arith)
-    (λ _. and_then-numbered (table t) _ (table-numbered t (table t) refl) (lowest_numbered (over_an_atom t) (nodes t) 0))
+    (λ _. and_then_numbered (table t) _ (table_numbered t (table t) refl) (lowest_numbered (over_an_atom t) (nodes t) 0))
 
 -- The refusals 17 and 18 have their numbers.
-rows-numbered : (found : Table) → TableNumbered found → (t rows : List ℕ) (width answers work : ℕ) → Numbered (judged_rows found t rows width answers work)
+rows_numbered : (found : Table) → TableNumbered found → (t rows : List ℕ) (width answers work : ℕ) → Numbered (judged_rows found t rows width answers work)
 unfolding judged_rows
-rows-numbered (Misformed number place) p t rows width answers work = p
-rows-numbered Formed p t rows width answers work =
+rows_numbered (Misformed number place) p t rows width answers work = p
+rows_numbered Formed p t rows width answers work =
     pick_case Numbered (good_rows t rows width)
     (λ _. pick_case Numbered (room_enough t (ticks_of rows width) answers work) (λ _. tt) (λ _. omega arith))
     (λ _. omega arith)
@@ -68,4 +68,4 @@ rows-numbered Formed p t rows width answers work =
 -- Whatever the matcher refuses, it refuses with a number from 1 to 18.
 pub refusals_are_numbered_from_1_to_18 : (t rows : List ℕ) (width answers work : ℕ) → Numbered (judged t rows width answers work)
 unfolding judged
-refusals_are_numbered_from_1_to_18 t rows width answers work = rows-numbered (judged_tree t) (tree_numbered t) t rows width answers work
+refusals_are_numbered_from_1_to_18 t rows width answers work = rows_numbered (judged_tree t) (tree_numbered t) t rows width answers work

@@ -72,9 +72,9 @@ pub record InTheRowBelow (t : List ℕ) (width count n : ℕ) : Type 0 where
   pub all : all_in_the_row t width n ≡ true
 
 -- At first no node is looked at.
-pub in_the_row-begins : (t : List ℕ) (width count : ℕ) → InTheRowBelow t width count 0
+pub in_the_row_begins : (t : List ℕ) (width count : ℕ) → InTheRowBelow t width count 0
 unfolding all_in_the_row
-in_the_row-begins t width count = record { turn = omega arith; all = refl }
+in_the_row_begins t width count = record { turn = omega arith; all = refl }
 
 module _ {t : List ℕ} {width count n : ℕ} {b : Bool} (g : InTheRowBelow t width count n) (h : n < count) (e : b ≡ in_the_row t width n) where
   -- A node whose atom or condition is outside the row decides.
@@ -87,8 +87,8 @@ module _ {t : List ℕ} {width count n : ℕ} {b : Bool} (g : InTheRowBelow t wi
   one_more_in_the_row q = record { turn = omega arith; all = rw (add-one n) (pick_true _ _ (sym e ∙ not-false b q) ∙ g.all) }
 
 -- At the end all nodes have their atoms and conditions in the row.
-pub in_the_row-ends : {t : List ℕ} {width count n : ℕ} → InTheRowBelow t width count n → count ≤ n → true ≡ all_in_the_row t width count
-in_the_row-ends {count = count} {n = n} g h = let e : count ≡ n = omega (arith, g.turn) in rw e (sym g.all)
+pub in_the_row_ends : {t : List ℕ} {width count n : ℕ} → InTheRowBelow t width count n → count ≤ n → true ≡ all_in_the_row t width count
+in_the_row_ends {count = count} {n = n} g h = let e : count ≡ n = omega (arith, g.turn) in rw e (sym g.all)
 
 -- Rows of a width and of so many ticks.
 module _ (t rows : List ℕ) (width : ℕ) (wide : width ≡ 0 → ⊥) (even : length rows % width ≡ 0) (short : length rows / width ≤ 256) {bits : Bool} (b : bits ≡ all_bits rows) where

@@ -62,8 +62,8 @@ pub record Closing (tables : List ℕ) (table first : ℕ) (before after : List 
   pub gained : Gains before after (Onward (Begun tables table (length before) k) before first)
 
 -- At first no ends were added.
-pub closing-begins : (tables : List ℕ) (table first : ℕ) (row : List ℕ) → Closing tables table first row row first
-closing-begins tables table first row = record {
+pub closing_begins : (tables : List ℕ) (table first : ℕ) (row : List ℕ) → Closing tables table first row row first
+closing_begins tables table first row = record {
   since = omega arith;
   gained = gains_none row _ (λ j h (m, c, p, o, (k, xs, (l, x))).
       omega (arith, times_forward _ (begun_forward tables table (length row) first) c m k xs));
@@ -79,9 +79,9 @@ module _ {tables : List ℕ} {table first : ℕ} {before after : List ℕ} {k : 
   Below n = Onward (Begun tables table side n) before first
 
   -- The table's row for the point lies inside of the table.
-  pub closing-inside : table + length before * length before ≤ length tables → k < length after
+  pub closing_inside : table + length before * length before ≤ length tables → k < length after
       → table + k * length after + length after ≤ length tables
-  closing-inside h l = rw C.gained.long (row_inside table k side (length tables) h (omega (arith, C.gained.long)))
+  closing_inside h l = rw C.gained.long (row_inside table k side (length tables) h (omega (arith, C.gained.long)))
 
   -- What is reached by runs that begin below this point is reached by such that begin below the next.
   still : (j : ℕ) → Below k j → Below (k + 1) j
@@ -137,8 +137,8 @@ module _ {tables : List ℕ} {table first : ℕ} {before after : List ℕ} {k : 
     }
 
   -- At the end of the row all were added.
-  pub closing-ends : length after ≤ k → Gains before after (Onward (Kept tables table (length before)) before first)
-  closing-ends l =
+  pub closing_ends : length after ≤ k → Gains before after (Onward (Kept tables table (length before)) before first)
+  closing_ends l =
       gains_as
       (λ j h. (
         λ (m, c, p, o, xs). (m, c, p, o, (all_begun tables table side k (suc c) m j (omega (arith, C.gained.long))).1 xs),

@@ -208,8 +208,8 @@ module _ {tables : List ℕ} {table low high i copies : ℕ} {before after ends 
 module _ (min max : ℕ) {tables : List ℕ} {table low high i : ℕ} {before after ends : List ℕ} (M : Made tables table low high i before after ends)
     (a : low ≡ lesser min (length before)) (b : Last high low max (length before)) (p : min ≤ max) where
   -- Where the last count is the highest, its ends alone are left to add.
-  pub last-lacking : {ends' : List ℕ} → max < length before → ends' ≡ ends → Lacking tables table min max i before after ends'
-  last-lacking l e = rw e record {
+  pub last_lacking : {ends' : List ℕ} → max < length before → ends' ≡ ends → Lacking tables table min max i before after ends'
+  last_lacking l e = rw e record {
     long = M.gained.long;
     wide = M.wide;
     rest = λ g.
@@ -257,7 +257,7 @@ pub counted : (low copies i : ℕ) (ends : List ℕ) {before after : List ℕ} �
 counted low copies i ends l g = gains_as (λ j k. (λ x. (l, x.0, x.1), λ x. (x.1, x.2))) (from_its_first_byte i ends g)
 
 -- With the row of ends all that is repeated is added.
-pub nothing-lacking : {tables : List ℕ} {table min max i : ℕ} {before after ends final : List ℕ}
+pub nothing_lacking : {tables : List ℕ} {table min max i : ℕ} {before after ends final : List ℕ}
     → Lacking tables table min max i before after ends → Gains after final (λ j. (i ≤ j) × (get_or ends (0 + j) 0 ≡ 1))
     → Gains before final (Repeated tables table (length before) min max i)
-nothing-lacking {i = i} {ends = ends} L g = L.rest (from_its_first_byte i ends g)
+nothing_lacking {i = i} {ends = ends} L g = L.rest (from_its_first_byte i ends g)

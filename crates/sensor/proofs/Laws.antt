@@ -159,7 +159,7 @@ module _ {map map' : List ℕ} {place next : ℕ} {entries : List ℕ} (loaded :
   unfolding row_entries
   row_ends row column f h = let e : 752 - column ≡ 0 = omega arith in filling_ends (rw e at f)
 
-  pub map-ends : (row : ℕ) → Filling map place entries map' next (entries_from loaded (752 - row) row) → 752 ≤ row
+  pub map_ends : (row : ℕ) → Filling map place entries map' next (entries_from loaded (752 - row) row) → 752 ≤ row
       → Wrote map map' place next (as_fit map place entries)
   unfolding entries_from
-  map-ends row f h = let e : 752 - row ≡ 0 = omega arith in filling_ends (rw e at f)
+  map_ends row f h = let e : 752 - row ≡ 0 = omega arith in filling_ends (rw e at f)

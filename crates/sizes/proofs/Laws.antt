@@ -22,7 +22,7 @@ use Rattle.meaning.specs.declared.SeqStep.{SeqStep}
 use Rattle.step_text.specs.Text.{reach, hop_registers, term_registers, step_registers}
 use Rattle.current.specs.Text.{registers_at}
 use Rattle.step_text.proofs.Laws.{at_least_itself, term_count_small}
-use Rattle.current.proofs.Walk.{registers_more, registers_grow, later-registers, lead_registers}
+use Rattle.current.proofs.Walk.{registers_more, registers_grow, later_registers, lead_registers}
 use Rattle.sizes.specs.Sizes.{hop_text_size, term_text_size, lead_text_size, delays_size, hop_stores_size, goto_size, term_stores_size, step_size, first_size, size_up_to_step, most_guard_words, most_text_words, most_activation_words, most_step_words, most_store_words, Countable}
 use Rattle.sizes.specs.declared.Size.{Size}
 
@@ -80,8 +80,8 @@ module _ {d g : ℕ} (h : d ≤ 65536) (k : g ≤ most_guard_words) where
   pub others_fit : Fits w64 ((d - 1) * (2 + g))
   others_fit = omega (arith, product_small (d - 1) g (omega (arith, h)) k)
 
-  pub delays-fit : {x : ℕ} → x ≤ most_text_words → Fits w64 (x + 1 + (d - 1) * (2 + g))
-  delays-fit l = omega (arith, product_small (d - 1) g (omega (arith, h)) k, l)
+  pub delays_fit : {x : ℕ} → x ≤ most_text_words → Fits w64 (x + 1 + (d - 1) * (2 + g))
+  delays_fit l = omega (arith, product_small (d - 1) g (omega (arith, h)) k, l)
 
 -- `hop_stores`: a match on the hop.
 pub hop_variant : {x y : SeqHop} {m : ℕ} → x ≡ y → hop_registers y ≡ m → hop_registers x ≤ 65536 → m ≤ 65536
@@ -89,8 +89,8 @@ hop_variant e f h = rw (← f, ← e) h
 
 -- `nonconsec_size`.
 module _ (x : SeqTerm) (count a : ℕ) {u v : ℕ} (h : count < 4294967296) (e : u ≡ goto_size count a) (f : v ≡ term_text_size x a) (l : a ≤ most_activation_words) where
-  pub nonconsec-fits : Fits w64 (u + v)
-  nonconsec-fits = omega (arith, e, f, h, l, goto_small count a, term_text_small x a)
+  pub nonconsec_fits : Fits w64 (u + v)
+  nonconsec_fits = omega (arith, e, f, h, l, goto_small count a, term_text_small x a)
 
   pub nonconsec_one_fits : Fits w64 (u + v + 1)
   nonconsec_one_fits = omega (arith, e, f, h, l, goto_small count a, term_text_small x a)
@@ -100,9 +100,9 @@ lead_fits x e h = omega (arith, e, h, lead_text_small x)
 
 -- `step_size`.
 module _ (s : SeqStep) {h : SeqHop} (e : h ≡ reach s) (l : step_registers s ≤ 65536) where
-  pub step-hop_small : hop_registers h ≤ 65536
+  pub step_hop_small : hop_registers h ≤ 65536
   unfolding step_registers
-  step-hop_small = rw e (omega (arith, l))
+  step_hop_small = rw e (omega (arith, l))
 
   pub step_term_small : term_count s.term ≤ 65536
   unfolding step_registers
@@ -115,13 +115,13 @@ module _ (s : SeqStep) {g x : ℕ} {h : SeqHop} {a u v : ℕ} (e : h ≡ reach s
     (f : a ≡ hop_text_size g h x) (i : u ≡ hop_stores_size g h x) (j : v ≡ term_stores_size s.term a) where
   step_stores_small : u + v ≤ most_step_words
   step_stores_small =
-      omega (arith, n, i, j, hop_stores_small g h x m (step-hop_small s e l), term_stores_small s.term a, step_term_small s e l, activation_small g h x f m n)
+      omega (arith, n, i, j, hop_stores_small g h x m (step_hop_small s e l), term_stores_small s.term a, step_term_small s e l, activation_small g h x f m n)
 
   pub own_fits : Fits w64 (u + v)
   own_fits = omega (arith, step_stores_small)
 
-  pub stores-fit : {z : ℕ} → z ≤ most_store_words → Fits w64 (z + (u + v))
-  stores-fit q = omega (arith, step_stores_small, q)
+  pub stores_fit : {z : ℕ} → z ≤ most_store_words → Fits w64 (z + (u + v))
+  stores_fit q = omega (arith, step_stores_small, q)
 
 -- The sizes after the k-th step.
 first_text : (g : ℕ) (x : SeqTerm) → (first_size g x).text ≤ 16 + g
@@ -155,16 +155,16 @@ module _ {W : List ℕ} {a : Kept} (C : Countable W a) where
   registers_of_a_step : (k : ℕ) → k < a.steps → registers_at W a k ≤ 65536
   registers_of_a_step k h = omega (arith, C.registers, registers_more W a k, registers_grow W a (k + 1) a.steps (omega (arith, h)))
 
-  text-low : (k : ℕ) → k < a.steps → (size_up_to_step W a k).text ≤ most_text_words
-  text-low k h = omega (arith, text_small W a k, C.whole.many, C.short, h)
+  text_low : (k : ℕ) → k < a.steps → (size_up_to_step W a k).text ≤ most_text_words
+  text_low k h = omega (arith, text_small W a k, C.whole.many, C.short, h)
 
   pub stores_small : (k : ℕ) → k < a.steps → (size_up_to_step W a k).stores ≤ (k + 1) * most_step_words
   unfolding size_up_to_step
   stores_small zero h =
       omega (arith, first_stores (length (guard_of W a)) (step_of W a 0).term (omega (arith, registers_of_a_step 0 h, lead_registers W a 0 refl)))
   stores_small (suc k) h =
-      let l : step_registers (step_of W a (suc k)) ≤ 65536 = omega (arith, registers_of_a_step (suc k) h, later-registers W a (suc k) (omega arith)) in
-      omega (arith, stores_small k (omega (arith, h)), stores_grow (length (guard_of W a)) (step_of W a (suc k)) (size_up_to_step W a k) l C.short (text-low k (omega (arith, h))))
+      let l : step_registers (step_of W a (suc k)) ≤ 65536 = omega (arith, registers_of_a_step (suc k) h, later_registers W a (suc k) (omega arith)) in
+      omega (arith, stores_small k (omega (arith, h)), stores_grow (length (guard_of W a)) (step_of W a (suc k)) (size_up_to_step W a k) l C.short (text_low k (omega (arith, h))))
 
 -- The loop of `sizes`: z are the sizes after the step before the k-th.
 pub record Sizing (W : List ℕ) (a : Kept) (g : ℕ) (z : Size) (k : ℕ) : Type 0 where
@@ -177,8 +177,8 @@ module _ {W : List ℕ} {a : Kept} (C : Countable W a) where
   guard_words : a.end - a.guard ≡ length (guard_of W a)
   guard_words = sym (length_of_guard C.whole)
 
-  pub guard-short : a.end - a.guard ≤ most_guard_words
-  guard-short = omega (arith, C.short, guard_words)
+  pub guard_short : a.end - a.guard ≤ most_guard_words
+  guard_short = omega (arith, C.short, guard_words)
 
   pub sizing_begins : {z : Size} {s : SeqStep} → s ≡ step_of W a 0 → z ≡ first_size (a.end - a.guard) s.term → Sizing W a (a.end - a.guard) z 1
   unfolding size_up_to_step
@@ -190,14 +190,14 @@ module _ {W : List ℕ} {a : Kept} (C : Countable W a) where
       sizing_guard = omega (arith, C.short, Z.guard)
 
       pub sizing_text : z.text ≤ most_text_words
-      sizing_text = rw Z.holds (text-low C (k - 1) (omega (arith, h)))
+      sizing_text = rw Z.holds (text_low C (k - 1) (omega (arith, h)))
 
       pub sizing_stores : z.stores ≤ most_store_words
       sizing_stores = rw Z.holds (omega (arith, stores_small C (k - 1) (omega (arith, h)), C.whole.many, h))
 
       module _ {s : SeqStep} (w : s ≡ step_of W a k) where
         pub sizing_registers : step_registers s ≤ 65536
-        sizing_registers = rw w (omega (arith, registers_of_a_step C k h, later-registers W a k Z.later))
+        sizing_registers = rw w (omega (arith, registers_of_a_step C k h, later_registers W a k Z.later))
 
         pub sizing_on : {y : Size} → y ≡ step_size g s z → Sizing W a g y (k + 1)
         unfolding size_up_to_step

@@ -4,7 +4,7 @@
 #![tactic(auto)]
 
 ghost use Rattle.std.specs.Prelude.{◌≡◌, ◌+◌, ◌-◌, ◌≤◌};
-ghost use Rattle.words.specs.Choice.{«pick»};
+ghost use Rattle.words.specs.Choice.{pick};
 ghost use Rattle.step_text.specs.Text.{hop_registers, step_registers};
 ghost use Rattle.sizes.specs.Sizes.{hop_text_size, term_text_size, lead_text_size, delays_size, hop_stores_size, goto_size, run_size, term_stores_size, step_size, first_size, size_up_to_step, most_guard_words, most_text_words, most_activation_words, most_store_words, Countable};
 

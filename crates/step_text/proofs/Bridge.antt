@@ -24,9 +24,9 @@ use Rattle.term.specs.Guards.{guard_words}
 use Rattle.step_text.specs.Text.{atom_word, register_word, any_word, and_word, or_word, before_empty, reach, at_least_one, hop_registers, term_registers, step_registers, hop_keeps, term_keeps, hop_prefix, hop_suffix, term_prefix, term_suffix, hop_base, term_base, hop_text, term_text, step_text, lead_text, extension_words}
 
 -- The guard's words behind an expression guard it.
-pub guarded-words : (g : Guard) (e : Expr) → expression_words (guard_and g e) ≡ expression_words e ++ guard_words g
-guarded-words unguarded e = sym (append-nil (expression_words e))
-guarded-words (guard x) e = refl
+pub guarded_words : (g : Guard) (e : Expr) → expression_words (guard_and g e) ≡ expression_words e ++ guard_words g
+guarded_words unguarded e = sym (append-nil (expression_words e))
+guarded_words (guard x) e = refl
 
 one_or_more : (k : ℕ) → at_least_one k ≡ suc (below k)
 unfolding at_least_one
@@ -38,9 +38,9 @@ pub delays_count : (g : Guard) (d r : ℕ) (e : Expr) → length (delays g d r e
 delays_count g zero r e = refl
 delays_count g (suc d) r e = ap suc (delays_count g d (suc r) (guard_and g (r· r)))
 
-pub delays-words : (g : Guard) (d r : ℕ) (e : Expr) → expression_words (delays g (suc d) r e).cur ≡ register_word (r + d) ∷ guard_words g
-delays-words g zero r e = rw (add-zero r) (guarded-words g (r· r))
-delays-words g (suc d) r e = let w : r + suc d ≡ suc r + d = omega arith in rw w (delays-words g d (suc r) (guard_and g (r· r)))
+pub delays_words : (g : Guard) (d r : ℕ) (e : Expr) → expression_words (delays g (suc d) r e).cur ≡ register_word (r + d) ∷ guard_words g
+delays_words g zero r e = rw (add-zero r) (guarded_words g (r· r))
+delays_words g (suc d) r e = let w : r + suc d ≡ suc r + d = omega arith in rw w (delays_words g d (suc r) (guard_and g (r· r)))
 
 -- Hops.
 pub hop_count : (g : Guard) (h : SeqHop) (r : ℕ) (e : Expr) → length (hop_over g h r e).stores ≡ hop_registers h
@@ -56,7 +56,7 @@ unfolding hop_text hop_keeps hop_prefix hop_suffix hop_base pick
 hop_words g (Fixed zero) r e = sym (append-nil (expression_words e))
 hop_words g (Fixed (suc d)) r e =
     let w : r + suc d - 1 ≡ r + d = omega arith in
-    rw (ne_eqb (suc d) 0 (λ (z : suc d ≡ 0). omega arith), w) (delays-words g d r e)
+    rw (ne_eqb (suc d) 0 (λ (z : suc d ≡ 0). omega arith), w) (delays_words g d r e)
 hop_words g (AtLeast zero) r e = refl
 hop_words g (AtLeast (suc m)) r e =
     let w : r + suc m - 1 ≡ r + m = omega arith in
@@ -67,9 +67,9 @@ pub goto_count : (b k r : ℕ) (avail : Expr) → length (goto_stages b r k avai
 goto_count b zero r avail = refl
 goto_count b (suc k) r avail = ap suc (goto_count b k (suc r) (r· r))
 
-goto-words : (b k r : ℕ) (avail : Expr) → expression_words (goto_stages b r (suc k) avail).cur ≡ atom_word b ∷ any_word ∷ register_word (r + k) ∷ and_word ∷ []
-goto-words b zero r avail = rw (add-zero r) refl
-goto-words b (suc k) r avail = let w : r + suc k ≡ suc r + k = omega arith in rw w (goto-words b k (suc r) (r· r))
+goto_words : (b k r : ℕ) (avail : Expr) → expression_words (goto_stages b r (suc k) avail).cur ≡ atom_word b ∷ any_word ∷ register_word (r + k) ∷ and_word ∷ []
+goto_words b zero r avail = rw (add-zero r) refl
+goto_words b (suc k) r avail = let w : r + suc k ≡ suc r + k = omega arith in rw w (goto_words b k (suc r) (r· r))
 
 pub run_count : (b k r : ℕ) (prior : Expr) → length (run_stages b k r prior).stores ≡ suc k
 run_count b zero r prior = refl
@@ -86,26 +86,26 @@ run_words b (suc k) r prior =
 pub goto_fsm_count : (b k r : ℕ) (act : Expr) → length (goto_fsm b k r act).stores ≡ at_least_one k
 goto_fsm_count b k r act = ap suc (goto_count b (below k) (suc r) (or· (r· r) act)) ∙ sym (one_or_more k)
 
-goto_fsm-words : (b k r : ℕ) (act : Expr) → expression_words (goto_fsm b k r act).cur ≡ term_text r (Goto b k) (expression_words act)
+goto_fsm_words : (b k r : ℕ) (act : Expr) → expression_words (goto_fsm b k r act).cur ≡ term_text r (Goto b k) (expression_words act)
 unfolding term_text term_keeps term_prefix term_suffix term_base pick
-goto_fsm-words b zero r act = ap (λ (l : List ℕ). atom_word b ∷ any_word ∷ register_word r ∷ l) (append_assoc (expression_words act) (or_word ∷ []) (and_word ∷ []))
-goto_fsm-words b (suc zero) r act = ap (λ (l : List ℕ). atom_word b ∷ any_word ∷ register_word r ∷ l) (append_assoc (expression_words act) (or_word ∷ []) (and_word ∷ []))
-goto_fsm-words b (suc (suc k)) r act =
+goto_fsm_words b zero r act = ap (λ (l : List ℕ). atom_word b ∷ any_word ∷ register_word r ∷ l) (append_assoc (expression_words act) (or_word ∷ []) (and_word ∷ []))
+goto_fsm_words b (suc zero) r act = ap (λ (l : List ℕ). atom_word b ∷ any_word ∷ register_word r ∷ l) (append_assoc (expression_words act) (or_word ∷ []) (and_word ∷ []))
+goto_fsm_words b (suc (suc k)) r act =
     let w : suc r + k ≡ r + suc (suc k) - 1 = omega arith in
-    rw (le-ltb (suc (suc k)) 2 (omega arith), ← w) (goto-words b k (suc r) (or· (r· r) act))
+    rw (le-ltb (suc (suc k)) 2 (omega arith), ← w) (goto_words b k (suc r) (or· (r· r) act))
 
 -- A nonconsecutive match is a goto's with its extension behind.
-pub nonconsec-text : (r b k : ℕ) (A : List ℕ) → term_text r (Nonconsec b k) A ≡ term_text r (Goto b k) A ++ extension_words b (r + at_least_one k)
+pub nonconsec_text : (r b k : ℕ) (A : List ℕ) → term_text r (Nonconsec b k) A ≡ term_text r (Goto b k) A ++ extension_words b (r + at_least_one k)
 unfolding term_text term_keeps term_prefix term_suffix term_base pick
-nonconsec-text r b zero A =
+nonconsec_text r b zero A =
     rw (one_or_more zero) (ap (λ (l : List ℕ). atom_word b ∷ any_word ∷ register_word r ∷ l) (sym (append_assoc A (or_word ∷ and_word ∷ []) (extension_words b (r + 1)))))
-nonconsec-text r b (suc zero) A =
+nonconsec_text r b (suc zero) A =
     rw (one_or_more 1) (ap (λ (l : List ℕ). atom_word b ∷ any_word ∷ register_word r ∷ l) (sym (append_assoc A (or_word ∷ and_word ∷ []) (extension_words b (r + 1)))))
-nonconsec-text r b (suc (suc k)) A = rw (one_or_more (suc (suc k)), le-ltb (suc (suc k)) 2 (omega arith)) refl
+nonconsec_text r b (suc (suc k)) A = rw (one_or_more (suc (suc k)), le-ltb (suc (suc k)) 2 (omega arith)) refl
 
-nonconsec_fsm-words : (b k r : ℕ) (act : Expr) → expression_words (nonconsec_fsm b k r act).cur ≡ term_text r (Nonconsec b k) (expression_words act)
-nonconsec_fsm-words b k r act =
-    ap₂ (λ (l : List ℕ) (m : ℕ). l ++ extension_words b (r + m)) (goto_fsm-words b k r act) (goto_fsm_count b k r act) ∙ sym (nonconsec-text r b k (expression_words act))
+nonconsec_fsm_words : (b k r : ℕ) (act : Expr) → expression_words (nonconsec_fsm b k r act).cur ≡ term_text r (Nonconsec b k) (expression_words act)
+nonconsec_fsm_words b k r act =
+    ap₂ (λ (l : List ℕ) (m : ℕ). l ++ extension_words b (r + m)) (goto_fsm_words b k r act) (goto_fsm_count b k r act) ∙ sym (nonconsec_text r b k (expression_words act))
 
 run_fsm_words : (b k r : ℕ) (act : Expr) → expression_words (consec_run_fsm b k r act).cur ≡ term_text r (ConsecAtLeast b k) (expression_words act)
 unfolding term_text term_keeps term_prefix term_suffix term_base pick
@@ -137,8 +137,8 @@ term_count Empty r act = refl
 pub term_words : (x : SeqTerm) (r : ℕ) (act : Expr) → expression_words (take_term x r act).cur ≡ term_text r x (expression_words act)
 unfolding term_text term_keeps term_prefix term_suffix pick
 term_words (BoolTerm a) r act = refl
-term_words (Goto b k) r act = goto_fsm-words b k r act
-term_words (Nonconsec b k) r act = nonconsec_fsm-words b k r act
+term_words (Goto b k) r act = goto_fsm_words b k r act
+term_words (Nonconsec b k) r act = nonconsec_fsm_words b k r act
 term_words (ConsecAtLeast b k) r act = run_fsm_words b k r act
 term_words Empty r act = sym (append-nil (expression_words act))
 
@@ -163,9 +163,9 @@ module _ (g : Guard) (s : SeqStep) (r : ℕ) (e : Expr) where
       ∙ length-append (hop_over g (reach s) r e).stores (take_term s.term (r + length (hop_over g (reach s) r e).stores) (hop_over g (reach s) r e).cur).stores
       ∙ ap₂ (λ (x y : ℕ). x + y) (hop_count g (reach s) r e) (term_count s.term (r + length (hop_over g (reach s) r e).stores) (hop_over g (reach s) r e).cur)
 
-  pub later-words : expression_words (later g s.term s.hop r e).cur ≡ step_text (guard_words g) r s (expression_words e)
+  pub later_words : expression_words (later g s.term s.hop r e).cur ≡ step_text (guard_words g) r s (expression_words e)
   unfolding step_text
-  later-words =
+  later_words =
       ap (λ (o : Synth). expression_words o.cur) (later_parts g s.term s.hop r e)
       ∙ term_words s.term (r + length (hop_over g (reach s) r e).stores) (hop_over g (reach s) r e).cur
       ∙ ap₂ (λ (z : ℕ) (l : List ℕ). term_text (r + z) s.term l) (hop_count g (reach s) r e) (hop_words g (reach s) r e)
@@ -179,10 +179,10 @@ seed_count (Nonconsec b k) r = term_count (Nonconsec b k) r one·
 seed_count (ConsecAtLeast b k) r = term_count (ConsecAtLeast b k) r one·
 seed_count Empty r = refl
 
-pub seed-words : (x : SeqTerm) (r : ℕ) → expression_words (seed x r).cur ≡ lead_text r x
+pub seed_words : (x : SeqTerm) (r : ℕ) → expression_words (seed x r).cur ≡ lead_text r x
 unfolding lead_text
-seed-words (BoolTerm a) r = refl
-seed-words (Goto b k) r = term_words (Goto b k) r one·
-seed-words (Nonconsec b k) r = term_words (Nonconsec b k) r one·
-seed-words (ConsecAtLeast b k) r = term_words (ConsecAtLeast b k) r one·
-seed-words Empty r = refl
+seed_words (BoolTerm a) r = refl
+seed_words (Goto b k) r = term_words (Goto b k) r one·
+seed_words (Nonconsec b k) r = term_words (Nonconsec b k) r one·
+seed_words (ConsecAtLeast b k) r = term_words (ConsecAtLeast b k) r one·
+seed_words Empty r = refl

@@ -36,9 +36,9 @@ module _ (s : SeqStep) {b : Bool} (e : b ≡ is_empty s.term) where
   unfolding reach
   reach_empty f q = q ∙ sym (pick_true _ _ (sym e ∙ f))
 
-  pub reach-other : b ≡ false → s.hop ≡ reach s
+  pub reach_other : b ≡ false → s.hop ≡ reach s
   unfolding reach
-  reach-other f = sym (pick_false _ _ (sym e ∙ f))
+  reach_other f = sym (pick_false _ _ (sym e ∙ f))
 
 -- The first register of a later step's term.
 module _ (s : SeqStep) (r : ℕ) {h : SeqHop} {q : ℕ} (e : h ≡ reach s) (f : q ≡ hop_registers h) where
@@ -57,15 +57,15 @@ module _ (r at : ℕ) {x y : SeqHop} (e : x ≡ y) where
   pub hop_prefix_in : {o o' : List ℕ} {p : ℕ} → Wrote o o' at p (hop_prefix r y) → Wrote o o' at p (hop_prefix r x)
   hop_prefix_in w = rw e w
 
-  pub hop_prefix-room : {n : ℕ} → length (hop_prefix r y) ≡ 1 → at + length (hop_prefix r x) ≤ n → at < n
-  hop_prefix-room q h = omega (arith, h, ap (λ (z : SeqHop). length (hop_prefix r z)) e, q)
+  pub hop_prefix_room : {n : ℕ} → length (hop_prefix r y) ≡ 1 → at + length (hop_prefix r x) ≤ n → at < n
+  hop_prefix_room q h = omega (arith, h, ap (λ (z : SeqHop). length (hop_prefix r z)) e, q)
 
 module _ (at : ℕ) {x y : SeqHop} (e : x ≡ y) where
   pub hop_suffix_in : {o o' : List ℕ} {p : ℕ} → Wrote o o' at p (hop_suffix y) → Wrote o o' at p (hop_suffix x)
   hop_suffix_in w = rw e w
 
-  pub hop_suffix-room : {n : ℕ} → length (hop_suffix y) ≡ 1 → at + length (hop_suffix x) ≤ n → at < n
-  hop_suffix-room q h = omega (arith, h, ap (λ (z : SeqHop). length (hop_suffix z)) e, q)
+  pub hop_suffix_room : {n : ℕ} → length (hop_suffix y) ≡ 1 → at + length (hop_suffix x) ≤ n → at < n
+  hop_suffix_room q h = omega (arith, h, ap (λ (z : SeqHop). length (hop_suffix z)) e, q)
 
 pub hop_base_first : (G : List ℕ) (r at : ℕ) (x : SeqHop) {n : ℕ} → at + length (hop_base G r x) ≤ n → at < n
 unfolding hop_base
@@ -121,8 +121,8 @@ module _ (r at : ℕ) {x y : SeqTerm} (e : x ≡ y) where
   lead_machine_room q h = same_room at (lead_machine q) h
 
 -- The atom of a variant, in a word.
-pub atom-fits : {x y : SeqTerm} {a : ℕ} → x ≡ y → term_atom y ≡ a → term_atom x < 65536 → Fits w32 (16777216 + a)
-atom-fits {x} {y} {a} e q h = let h' : a < 65536 = rw (← q, ← e) h in omega arith
+pub atom_fits : {x y : SeqTerm} {a : ℕ} → x ≡ y → term_atom y ≡ a → term_atom x < 65536 → Fits w32 (16777216 + a)
+atom_fits {x} {y} {a} e q h = let h' : a < 65536 = rw (← q, ← e) h in omega arith
 
 -- The last of k registers from r on, where there is one.
 pub record Counted (r k : ℕ) : Type 0 where
@@ -185,34 +185,34 @@ pub term_counts_two : {x y : SeqTerm} {k : ℕ} → x ≡ y → term_count y ≡
 term_counts_two {x} e q f = rw (← q, ← e) (term_two x f)
 
 -- All numbers in the words of a text that begins anew.
-pub ruleset new-numbers = (atom-fits, count_fits, last_there, last_two_there, last_fits, last_two_fits, past_fits, hop_counted, term_counted, term_counts_two)
+pub ruleset new-numbers = (atom_fits, count_fits, last_there, last_two_there, last_fits, last_two_fits, past_fits, hop_counted, term_counted, term_counts_two)
 
 pub no_keep : (x : SeqTerm) {b : Bool} → b ≡ term_keeps x → b ≡ false → term_keeps x ≡ false
 no_keep x e f = sym e ∙ f
 
 -- A leading machine: its text around constant one, or anew.
 module _ (r : ℕ) (x : SeqTerm) (A : List ℕ) {b : Bool} (e : b ≡ term_keeps x) where
-  text-kept : b ≡ true → term_text r x A ≡ term_prefix r x ++ (A ++ term_suffix r x)
+  text_kept : b ≡ true → term_text r x A ≡ term_prefix r x ++ (A ++ term_suffix r x)
   unfolding term_text
-  text-kept f = pick_true _ _ (sym e ∙ f)
+  text_kept f = pick_true _ _ (sym e ∙ f)
 
   text_new : b ≡ false → term_text r x A ≡ term_base r x
   unfolding term_text
   text_new f = pick_false _ _ (sym e ∙ f)
 
   pub text_prefix_room : (at : ℕ) {n : ℕ} → b ≡ true → at + length (term_text r x A) ≤ n → at + length (term_prefix r x) ≤ n
-  text_prefix_room at f h = first_room at (term_prefix r x) (A ++ term_suffix r x) (text-kept f) h
+  text_prefix_room at f h = first_room at (term_prefix r x) (A ++ term_suffix r x) (text_kept f) h
 
   pub text_middle_room : {at a : ℕ} {o o₁ : List ℕ} → b ≡ true → at + length (term_text r x A) ≤ length o → Wrote o o₁ at a (term_prefix r x) → a + length A ≤ length o₁
-  text_middle_room {at} {a} f h u = first_room a A (term_suffix r x) refl (second_room (term_prefix r x) (A ++ term_suffix r x) (text-kept f) h u)
+  text_middle_room {at} {a} f h u = first_room a A (term_suffix r x) refl (second_room (term_prefix r x) (A ++ term_suffix r x) (text_kept f) h u)
 
   pub text_suffix_room : {at a c : ℕ} {o o₁ o₂ : List ℕ} → b ≡ true → at + length (term_text r x A) ≤ length o → Wrote o o₁ at a (term_prefix r x) → Wrote o₁ o₂ a c A
       → c + length (term_suffix r x) ≤ length o₂
-  text_suffix_room f h u v = third_room (term_prefix r x) A (term_suffix r x) (text-kept f) h u v
+  text_suffix_room f h u v = third_room (term_prefix r x) A (term_suffix r x) (text_kept f) h u v
 
   pub text_kept_done : {at a c p : ℕ} {o o₁ o₂ o₃ : List ℕ} → b ≡ true → Wrote o o₁ at a (term_prefix r x) → Wrote o₁ o₂ a c A → Wrote o₂ o₃ c p (term_suffix r x)
       → Wrote o o₃ at p (term_text r x A)
-  text_kept_done f u v w = three_done (text-kept f) u v w
+  text_kept_done f u v w = three_done (text_kept f) u v w
 
   pub text_base_room : (at : ℕ) {n : ℕ} → b ≡ false → at + length (term_text r x A) ≤ n → at + length (term_base r x) ≤ n
   text_base_room at f h = same_room at (text_new f) h

@@ -88,8 +88,8 @@ module _ (s : SeqStep) (r : ℕ) where
       unfolding step_base
       base_anew = rw i (pick_false _ _ (sym k ∙ f))
 
-      pub anew-room : (at : ℕ) {n : ℕ} → at + length (step_base G r s) ≤ n → at + length (term_base q s.term) ≤ n
-      anew-room at w = same_room at base_anew w
+      pub anew_room : (at : ℕ) {n : ℕ} → at + length (step_base G r s) ≤ n → at + length (term_base q s.term) ≤ n
+      anew_room at w = same_room at base_anew w
 
       pub anew_done : {at p : ℕ} {o o₁ : List ℕ} → Wrote o o₁ at p (term_base q s.term) → Wrote o o₁ at p (step_base G r s)
       anew_done w = same_words (sym base_anew) w

@@ -4,12 +4,11 @@
 // Example: after `a`, the step `##2 b` begins anew with r1, and adds a1 any and; it takes two registers.
 #![tactic(auto)]
 
-ghost use Rattle.std.specs.Prelude.{◌≡◌, [], ◌∷◌, ◌++◌, ◌+◌, ◌-◌, ◌≤◌, ◌<◌, length};
-ghost use Rattle.std.proofs.Math.Bool.{«false»};
+ghost use Rattle.std.specs.Prelude.{◌≡◌, false, [], ◌∷◌, ◌++◌, ◌+◌, ◌-◌, ◌≤◌, ◌<◌, length};
 ghost use Rattle.words.specs.Written.{Wrote};
 ghost use Rattle.term.specs.Keeping.{guard_of, Whole};
 ghost use Rattle.meaning.specs.Refusals.{is_empty};
-ghost use Rattle.step_text.specs.Text.{before_empty, «reach», at_least_one, hop_registers, term_registers, step_registers, hop_keeps, term_keeps, hop_prefix, hop_suffix, term_prefix, term_suffix, hop_base, term_base, term_text, lead_text, one_word, step_prefix, step_suffix, step_base, BeginsAnew, TermFits, StepFits};
+ghost use Rattle.step_text.specs.Text.{before_empty, reach, at_least_one, hop_registers, term_registers, step_registers, hop_keeps, term_keeps, hop_prefix, hop_suffix, term_prefix, term_suffix, hop_base, term_base, term_text, lead_text, one_word, step_prefix, step_suffix, step_base, BeginsAnew, TermFits, StepFits};
 
 use meaning::word;
 

@@ -197,9 +197,9 @@ module _ {listing : List ℕ} {r at : ℕ} (g : Walking listing r at) where
       (λ l. sym (g.rest ∙ rw (drop_of_length-le listing (ltb-false _ _ l)) refl))
 
 -- In a listing as described, what drives the register is its stretch.
-pub stretch-described : (listing : List ℕ) (r : ℕ) {c : Checked} {part : List ℕ} → c ≡ check listing → c ≡ Described → part ≡ stretch_from [] listing r → part ≡ stretch listing r
+pub stretch_described : (listing : List ℕ) (r : ℕ) {c : Checked} {part : List ℕ} → c ≡ check listing → c ≡ Described → part ≡ stretch_from [] listing r → part ≡ stretch listing r
 unfolding stretch stretch_if
-stretch-described listing r e d p = rw (← e, d) p
+stretch_described listing r e d p = rw (← e, d) p
 
 -- In a faulty listing the stretch is empty.
 pub stretch_faulty : (listing : List ℕ) (r : ℕ) {c : Checked} {place : ℕ} → c ≡ check listing → c ≡ Faulty place → [] ≡ stretch listing r

@@ -76,27 +76,27 @@ pub stretched_for_c : (listing : List ℕ) (register : ℕ) {start : ℕ} {part 
     → StretchesForC listing register (length part) start
 stretched_for_c listing register s p = record { size_is = ap length p; start_is = s }
 
-module _ {tree rows answers answers-after work work_after : List ℕ} {width : ℕ} {answer : Matched}
-    (M : Matches tree rows width answers answers-after work work_after answer) where
+module _ {tree rows answers answers_after work work_after : List ℕ} {width : ℕ} {answer : Matched}
+    (M : Matches tree rows width answers answers_after work work_after answer) where
   -- The parts of an answer, once it is known.
   matched_apart : {known : Matched} → answer ≡ known
-      → MatchesForC tree rows width answers work (matched_number known) answers-after work_after (matched_ticks known) (matched_place known)
+      → MatchesForC tree rows width answers work (matched_number known) answers_after work_after (matched_ticks known) (matched_place known)
   matched_apart e =
       let a = sym e ∙ M.answer_is in
       record {
         number_is = ap matched_number a;
-        answers_hold = subst (λ (x : Matched). Holds x tree rows width answers answers-after) M.answer_is M.holds;
+        answers_hold = subst (λ (x : Matched). Holds x tree rows width answers answers_after) M.answer_is M.holds;
         work_is = M.cleared;
         ticks_are = ap matched_ticks a;
         place_is = ap matched_place a;
       }
 
   -- So many ticks, with number and place 0.
-  pub matched_for_c : {ticks : ℕ} → answer ≡ Ticks ticks → MatchesForC tree rows width answers work 0 answers-after work_after ticks 0
+  pub matched_for_c : {ticks : ℕ} → answer ≡ Ticks ticks → MatchesForC tree rows width answers work 0 answers_after work_after ticks 0
   unfolding matched_number matched_ticks matched_place
   matched_for_c e = matched_apart e
 
   -- A refusal: its number and place, with no ticks.
-  pub not_matched_for_c : {number place : ℕ} → answer ≡ NotMatched number place → MatchesForC tree rows width answers work number answers-after work_after 0 place
+  pub not_matched_for_c : {number place : ℕ} → answer ≡ NotMatched number place → MatchesForC tree rows width answers work number answers_after work_after 0 place
   unfolding matched_number matched_ticks matched_place
   not_matched_for_c e = matched_apart e

@@ -50,125 +50,125 @@ OfTick (Match bit) = Unit {0}
 OfTick (NotTicked number place) = Between 21 23 number
 
 -- 1 to 3, each of the lowest node.
-lowest_failing-numbered : (refusal : ℕ) (test : ℕ → Bool) (count n : ℕ) (then : Table) → Between 1 14 refusal → OfTable then → OfTable (lowest_failing refusal test count n then)
+lowest_failing_numbered : (refusal : ℕ) (test : ℕ → Bool) (count n : ℕ) (then : Table) → Between 1 14 refusal → OfTable then → OfTable (lowest_failing refusal test count n then)
 unfolding lowest_failing
-lowest_failing-numbered refusal test zero n then r t = t
-lowest_failing-numbered refusal test (suc count) n then r t =
-    pick_case OfTable (test n) (λ _. lowest_failing-numbered refusal test count (n + 1) then r t) (λ _. r)
+lowest_failing_numbered refusal test zero n then r t = t
+lowest_failing_numbered refusal test (suc count) n then r t =
+    pick_case OfTable (test n) (λ _. lowest_failing_numbered refusal test count (n + 1) then r t) (λ _. r)
 
 -- 1 to 3, of the whole table.
-table-numbered : (t : List ℕ) → OfTable (table t)
+table_numbered : (t : List ℕ) → OfTable (table t)
 unfolding table
-table-numbered t =
-    let ranges = lowest_failing-numbered 3 (λ n. range_node (node_at t n)) (nodes t) 0 Formed (refused 3 tt tt) tt in
-    let once = lowest_failing-numbered 2 (used_once t) (below (nodes t)) 0 _ (refused 2 tt tt) ranges in
-    let formed = lowest_failing-numbered 1 (λ n. formed_node n (node_at t n)) (nodes t) 0 _ (refused 1 tt tt) once in
+table_numbered t =
+    let ranges = lowest_failing_numbered 3 (λ n. range_node (node_at t n)) (nodes t) 0 Formed (refused 3 tt tt) tt in
+    let once = lowest_failing_numbered 2 (used_once t) (below (nodes t)) 0 _ (refused 2 tt tt) ranges in
+    let formed = lowest_failing_numbered 1 (λ n. formed_node n (node_at t n)) (nodes t) 0 _ (refused 1 tt tt) once in
     pick_case OfTable (eqb (length t % 5) 0)
     (λ _. pick_case OfTable (eqb (length t) 0) (λ _. refused 1 tt tt) (λ _. pick_case OfTable (ltb 20480 (length t)) (λ _. refused 1 tt tt) (λ _. formed)))
     (λ _. refused 1 tt tt)
 
 -- 10 and 11 at a node.
-limited-numbered : (room n : ℕ) (alts : List SeqAlt) → OfWalk (limited room n alts)
+limited_numbered : (room n : ℕ) (alts : List SeqAlt) → OfWalk (limited room n alts)
 unfolding limited
-limited-numbered room n alts =
+limited_numbered room n alts =
     pick_case OfWalk (ltb 256 (length alts)) (λ _. refused 10 tt tt) (λ _. pick_case OfWalk (ltb room (entries alts)) (λ _. refused 11 tt tt) (λ _. tt))
 
 -- A refusal that is handed up.
-and_then-numbered : (under next : Walked) → OfWalk under → OfWalk next → OfWalk (and_then under next)
+and_then_numbered : (under next : Walked) → OfWalk under → OfWalk next → OfWalk (and_then under next)
 unfolding and_then
-and_then-numbered (Counted c) next u x = x
-and_then-numbered (Stopped number place) next u x = u
+and_then_numbered (Counted c) next u x = x
+and_then_numbered (Stopped number place) next u x = u
 
 -- 4.
-deep_enough-numbered : (d : ℕ) (s : Seq) (answer : Walked) → OfWalk answer → OfWalk (deep_enough d s answer)
+deep_enough_numbered : (d : ℕ) (s : Seq) (answer : Walked) → OfWalk answer → OfWalk (deep_enough d s answer)
 unfolding deep_enough
-deep_enough-numbered d s answer a = pick_case OfWalk (ltb 256 d) (λ _. refused 4 tt tt) (λ _. a)
+deep_enough_numbered d s answer a = pick_case OfWalk (ltb 256 d) (λ _. refused 4 tt tt) (λ _. a)
 
 -- 5 and 6 of the kinds that stand over a Boolean.
-over_boolean-numbered : (n count : ℕ) (x : Operand) (answer : Walked) → OfWalk answer → OfWalk (over_boolean n count x answer)
+over_boolean_numbered : (n count : ℕ) (x : Operand) (answer : Walked) → OfWalk answer → OfWalk (over_boolean n count x answer)
 unfolding over_boolean
-over_boolean-numbered n count x answer a =
+over_boolean_numbered n count x answer a =
     pick_case OfWalk (ltb 256 count) (λ _. refused 5 tt tt) (λ _. pick_case OfWalk (is_boolean x) (λ _. a) (λ _. refused 6 tt tt))
 
 -- 4 to 8, 10 and 11: the walk, below a node and with it.
-walk_in-numbered : (room d : ℕ) (s : Seq) → OfWalk (walk_in room d s)
+walk_in_numbered : (room d : ℕ) (s : Seq) → OfWalk (walk_in room d s)
 unfolding walk_in
-walk_in-numbered room d (atom n a) = limited-numbered room n _
-walk_in-numbered room d (delay n l r m x) =
-    and_then-numbered _ _ (deep_enough-numbered (d + 1) l _ (walk_in-numbered room (d + 1) l))
-    (and_then-numbered _ _ (deep_enough-numbered (d + 1) r _ (walk_in-numbered room (d + 1) r)) (limited-numbered room n _))
-walk_in-numbered room d (consec n s m (finite zero)) = limited-numbered room n _
-walk_in-numbered room d (consec n s m (finite (suc x))) =
-    and_then-numbered _ _ (deep_enough-numbered (d + 1) s _ (walk_in-numbered room (d + 1) s))
-    (pick_case OfWalk (ltb 256 (suc x)) (λ _. refused 5 tt tt) (λ _. limited-numbered room n _))
-walk_in-numbered room d (consec n s m unbounded) = over_boolean-numbered n m (operand s) _ (limited-numbered room n _)
-walk_in-numbered room d (goto n s k) = over_boolean-numbered n k (operand s) _ (limited-numbered room n _)
-walk_in-numbered room d (nonconsec n s k) = over_boolean-numbered n k (operand s) _ (limited-numbered room n _)
-walk_in-numbered room d (throughout n c s) =
-    and_then-numbered _ _ (deep_enough-numbered (d + 1) s _ (walk_in-numbered room (d + 1) s))
-    (pick_case OfWalk (plain (expand s)) (λ _. limited-numbered room n _) (λ _. refused 7 tt tt))
-walk_in-numbered room d (within n s₁ s₂) = refused 8 tt tt
+walk_in_numbered room d (atom n a) = limited_numbered room n _
+walk_in_numbered room d (delay n l r m x) =
+    and_then_numbered _ _ (deep_enough_numbered (d + 1) l _ (walk_in_numbered room (d + 1) l))
+    (and_then_numbered _ _ (deep_enough_numbered (d + 1) r _ (walk_in_numbered room (d + 1) r)) (limited_numbered room n _))
+walk_in_numbered room d (consec n s m (finite zero)) = limited_numbered room n _
+walk_in_numbered room d (consec n s m (finite (suc x))) =
+    and_then_numbered _ _ (deep_enough_numbered (d + 1) s _ (walk_in_numbered room (d + 1) s))
+    (pick_case OfWalk (ltb 256 (suc x)) (λ _. refused 5 tt tt) (λ _. limited_numbered room n _))
+walk_in_numbered room d (consec n s m unbounded) = over_boolean_numbered n m (operand s) _ (limited_numbered room n _)
+walk_in_numbered room d (goto n s k) = over_boolean_numbered n k (operand s) _ (limited_numbered room n _)
+walk_in_numbered room d (nonconsec n s k) = over_boolean_numbered n k (operand s) _ (limited_numbered room n _)
+walk_in_numbered room d (throughout n c s) =
+    and_then_numbered _ _ (deep_enough_numbered (d + 1) s _ (walk_in_numbered room (d + 1) s))
+    (pick_case OfWalk (plain (expand s)) (λ _. limited_numbered room n _) (λ _. refused 7 tt tt))
+walk_in_numbered room d (within n s₁ s₂) = refused 8 tt tt
 
-walk-numbered : (room d : ℕ) (s : Seq) → OfWalk (walk room d s)
+walk_numbered : (room d : ℕ) (s : Seq) → OfWalk (walk room d s)
 unfolding walk
-walk-numbered room d s = deep_enough-numbered d s _ (walk_in-numbered room d s)
+walk_numbered room d s = deep_enough_numbered d s _ (walk_in_numbered room d s)
 
 -- 9 to 11 of a root within.
-limited_within-numbered : (room n : ℕ) (xs ys : List SeqAlt) → OfWalk (limited_within room n xs ys)
+limited_within_numbered : (room n : ℕ) (xs ys : List SeqAlt) → OfWalk (limited_within room n xs ys)
 unfolding limited_within
-limited_within-numbered room n xs ys =
+limited_within_numbered room n xs ys =
     pick_case OfWalk (pick (within_fits xs) (within_fits ys) _)
     (λ _. pick_case OfWalk (ltb 256 (length xs * length ys)) (λ _. refused 10 tt tt)
     (λ _. pick_case OfWalk (ltb room (entries xs + entries ys)) (λ _. refused 11 tt tt) (λ _. tt)))
     (λ _. refused 9 tt tt)
 
 -- 4 to 11: the walk from the root.
-walk_rooted-numbered : (room : ℕ) (s : Rooted) → OfWalk (walk_rooted room s)
-walk_rooted-numbered room (a_within n s₁ s₂) =
-    and_then-numbered _ _ (walk-numbered room 1 s₁) (and_then-numbered _ _ (walk-numbered room 1 s₂) (limited_within-numbered room n _ _))
-walk_rooted-numbered room (another s) = walk-numbered room 1 s
+walk_rooted_numbered : (room : ℕ) (s : Rooted) → OfWalk (walk_rooted room s)
+walk_rooted_numbered room (a_within n s₁ s₂) =
+    and_then_numbered _ _ (walk_numbered room 1 s₁) (and_then_numbered _ _ (walk_numbered room 1 s₂) (limited_within_numbered room n _ _))
+walk_rooted_numbered room (another s) = walk_numbered room 1 s
 
-walk_root-numbered : (room : ℕ) (s : Seq) → OfWalk (walk_root room s)
+walk_root_numbered : (room : ℕ) (s : Seq) → OfWalk (walk_root room s)
 unfolding walk_root
-walk_root-numbered room s = walk_rooted-numbered room (rooted s)
+walk_root_numbered room s = walk_rooted_numbered room (rooted s)
 
 -- 13 and 14.
-fits-numbered : (count : ℕ) (ws : List ℕ) (first out : ℕ) → OfLowering (fits count ws first out)
+fits_numbered : (count : ℕ) (ws : List ℕ) (first out : ℕ) → OfLowering (fits count ws first out)
 unfolding fits
-fits-numbered count ws first out =
+fits_numbered count ws first out =
     pick_case OfLowering (ltb 65536 (first + count)) (λ _. refused 13 tt tt) (λ _. pick_case OfLowering (ltb out (length ws)) (λ _. refused 14 tt tt) (λ _. tt))
 
 -- 12, then those.
-after_walk-numbered : (f : Found) (t : List ℕ) (first out : ℕ) → OfLowering (after_walk f t first out)
+after_walk_numbered : (f : Found) (t : List ℕ) (first out : ℕ) → OfLowering (after_walk f t first out)
 unfolding after_walk
-after_walk-numbered (at i) t first out = refused 12 tt tt
-after_walk-numbered nowhere t first out = fits-numbered _ _ first out
+after_walk_numbered (at i) t first out = refused 12 tt tt
+after_walk_numbered nowhere t first out = fits_numbered _ _ first out
 
 -- The walk's refusals, then those.
-after_table-numbered : (w : Walked) (t : List ℕ) (first out : ℕ) → OfWalk w → OfLowering (after_table w t first out)
+after_table_numbered : (w : Walked) (t : List ℕ) (first out : ℕ) → OfWalk w → OfLowering (after_table w t first out)
 unfolding after_table
-after_table-numbered (Stopped number place) t first out w = w
-after_table-numbered (Counted c) t first out w = after_walk-numbered _ t first out
+after_table_numbered (Stopped number place) t first out w = w
+after_table_numbered (Counted c) t first out w = after_walk_numbered _ t first out
 
 -- The table's refusals, then those.
-after_nothing-numbered : (a : Table) (t : List ℕ) (work out first : ℕ) → OfTable a → OfLowering (after_nothing a t work out first)
+after_nothing_numbered : (a : Table) (t : List ℕ) (work out first : ℕ) → OfTable a → OfLowering (after_nothing a t work out first)
 unfolding after_nothing
-after_nothing-numbered (Misformed number place) t work out first a = a
-after_nothing-numbered Formed t work out first a = after_table-numbered _ t first out (walk_root-numbered (room_of work) (root t))
+after_nothing_numbered (Misformed number place) t work out first a = a
+after_nothing_numbered Formed t work out first a = after_table_numbered _ t first out (walk_root_numbered (room_of work) (root t))
 
 -- A refusal of lowering has a number from 1 to 14.
 pub a_lowering_is_refused_with_1_to_14 : (t : List ℕ) (work out first : ℕ) {number place : ℕ} → lower t work out first ≡ Refused number place → (1 ≤ number) × (number ≤ 14)
 unfolding lower
-a_lowering_is_refused_with_1_to_14 t work out first e = subst OfLowering e (after_nothing-numbered (table t) t work out first (table-numbered t))
+a_lowering_is_refused_with_1_to_14 t work out first e = subst OfLowering e (after_nothing_numbered (table t) t work out first (table_numbered t))
 
 -- 21, by the check's answer; then 22 and 23.
-tick_if-numbered : (c : Checked) (ws cur atoms : List ℕ) (next stack : ℕ) → OfTick (tick_if c ws cur atoms next stack)
+tick_if_numbered : (c : Checked) (ws cur atoms : List ℕ) (next stack : ℕ) → OfTick (tick_if c ws cur atoms next stack)
 unfolding tick_if
-tick_if-numbered (Faulty place) ws cur atoms next stack = refused 21 tt tt
-tick_if-numbered Described ws cur atoms next stack =
+tick_if_numbered (Faulty place) ws cur atoms next stack = refused 21 tt tt
+tick_if_numbered Described ws cur atoms next stack =
     pick_case OfTick (too_short ws (length cur) (length atoms) next stack) (λ _. refused 22 tt tt) (λ _. pick_case OfTick (bits ws cur atoms) (λ _. tt) (λ _. refused 23 tt tt))
 
 -- A refusal of a tick has a number from 21 to 23.
 pub a_tick_is_refused_with_21_to_23 : (ws cur atoms : List ℕ) (next stack : ℕ) {number place : ℕ} → tick ws cur atoms next stack ≡ NotTicked number place → (21 ≤ number) × (number ≤ 23)
 unfolding tick
-a_tick_is_refused_with_21_to_23 ws cur atoms next stack e = subst OfTick e (tick_if-numbered (check ws) ws cur atoms next stack)
+a_tick_is_refused_with_21_to_23 ws cur atoms next stack e = subst OfTick e (tick_if_numbered (check ws) ws cur atoms next stack)

@@ -94,9 +94,9 @@ matched_place (Ticks ticks) = 0
 matched_place (NotMatched number place) = place
 
 -- What `sva_matches` returns and leaves.
-pub record MatchesForC (tree rows : List ℕ) (width : ℕ) (answers work : List ℕ) (number : ℕ) (answers-after work_after : List ℕ) (ticks place : ℕ) : Type 0 where
+pub record MatchesForC (tree rows : List ℕ) (width : ℕ) (answers work : List ℕ) (number : ℕ) (answers_after work_after : List ℕ) (ticks place : ℕ) : Type 0 where
   pub number_is : number ≡ matched_number (judged tree rows width (length answers) (length work))
-  pub answers_hold : Holds (judged tree rows width (length answers) (length work)) tree rows width answers answers-after
+  pub answers_hold : Holds (judged tree rows width (length answers) (length work)) tree rows width answers answers_after
   pub work_is : work_after ≡ replicate (length work) 0
   pub ticks_are : ticks ≡ matched_ticks (judged tree rows width (length answers) (length work))
   pub place_is : place ≡ matched_place (judged tree rows width (length answers) (length work))

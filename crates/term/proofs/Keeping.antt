@@ -22,17 +22,17 @@ pub no_guard : (W : List ℕ) (a : Kept) → guard_of W (without_guard a) ≡ []
 unfolding guard_of
 no_guard W a = rw (sub_self a.end) refl
 
-pub whole-without_guard : {W : List ℕ} {a : Kept} → Whole W a → Whole W (without_guard a)
-whole-without_guard {W} {a} whole = record { some = whole.some; many = whole.many; inside = whole.inside; order = omega arith; ends = whole.ends; atoms = whole.atoms }
+pub whole_without_guard : {W : List ℕ} {a : Kept} → Whole W a → Whole W (without_guard a)
+whole_without_guard {W} {a} whole = record { some = whole.some; many = whole.many; inside = whole.inside; order = omega arith; ends = whole.ends; atoms = whole.atoms }
 
 -- Steps are kept where their words stand.
-pub stored-words : (ss : List SeqStep) (W : List ℕ) (a : Kept) (k : ℕ)
+pub stored_words : (ss : List SeqStep) (W : List ℕ) (a : Kept) (k : ℕ)
     → ((j : ℕ) → j < length (steps_words ss) → get_or W (a.from + k * 5 + j) 0 ≡ get_or (steps_words ss) j 0) → Stored W a k ss
 unfolding steps_words step_words
-stored-words [] W a k e = tt
-stored-words (s ∷ ss) W a k e = (
+stored_words [] W a k e = tt
+stored_words (s ∷ ss) W a k e = (
   same_step W (step_words s) (a.from + k * 5) 0 (λ j h. e j (longer (omega arith)) ∙ first j h) ∙ its_own_words s,
-  stored-words ss W a (suc k) (λ j h. ap (λ (p : ℕ). get_or W p 0) (next j) ∙ e (5 + j) (longer (omega arith)) ∙ get_or-append-add (step_words s) (steps_words ss) j 0),
+  stored_words ss W a (suc k) (λ j h. ap (λ (p : ℕ). get_or W p 0) (next j) ∙ e (5 + j) (longer (omega arith)) ∙ get_or-append-add (step_words s) (steps_words ss) j 0),
 )
   where
     longer : {j : ℕ} → j < 5 + length (steps_words ss) → j < length (step_words s ++ steps_words ss)
@@ -46,7 +46,7 @@ stored-words (s ∷ ss) W a k e = (
 
 -- The words of steps, by themselves, keep those steps.
 pub its_own_steps : (a : Kept) (ss : List SeqStep) → a.from ≡ 0 → Stored (steps_words ss) a 0 ss
-its_own_steps a ss e = stored-words ss (steps_words ss) a 0 (λ j h. ap (λ (p : ℕ). get_or (steps_words ss) p 0) (omega (arith, e)))
+its_own_steps a ss e = stored_words ss (steps_words ss) a 0 (λ j h. ap (λ (p : ℕ). get_or (steps_words ss) p 0) (omega (arith, e)))
 
 -- The steps read are the steps stored.
 pub steps_are : (W : List ℕ) (a : Kept) (ss : List SeqStep) (k : ℕ) → Stored W a k ss → steps_from W a k (length ss) ≡ ss
@@ -55,8 +55,8 @@ steps_are W a [] k S = refl
 steps_are W a (s ∷ ss) k S = ap₂ (λ (x : SeqStep) (xs : List SeqStep). x ∷ xs) S.0 (steps_are W a ss (suc k) S.1)
 
 -- The atoms of the steps read are those of the steps stored.
-pub stored-atoms : (W : List ℕ) (a : Kept) (ss : List SeqStep) (k : ℕ) → Stored W a k ss → SmallAtoms ss
+pub stored_atoms : (W : List ℕ) (a : Kept) (ss : List SeqStep) (k : ℕ) → Stored W a k ss → SmallAtoms ss
     → (j : ℕ) → j < length ss → term_atom (step_of W a (k + j)).term < 65536
-stored-atoms W a [] k S small j h = absurd (omega arith)
-stored-atoms W a (s ∷ ss) k S small zero h = rw (add-zero k, S.0) small.0
-stored-atoms W a (s ∷ ss) k S small (suc j) h = let e : k + suc j ≡ suc k + j = omega arith in rw e (stored-atoms W a ss (suc k) S.1 small.1 j (omega arith))
+stored_atoms W a [] k S small j h = absurd (omega arith)
+stored_atoms W a (s ∷ ss) k S small zero h = rw (add-zero k, S.0) small.0
+stored_atoms W a (s ∷ ss) k S small (suc j) h = let e : k + suc j ≡ suc k + j = omega arith in rw e (stored_atoms W a ss (suc k) S.1 small.1 j (omega arith))

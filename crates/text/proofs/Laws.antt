@@ -26,23 +26,23 @@ wrote_second {ys = ys} xs e w = same_words (sym (pick_false xs ys e)) w
 pub ruleset chosen = (wrote_first, wrote_second, eq-eqb, ne_eqb)
 
 -- The places lie as far apart as the bytes are many.
-pub ends-within : {o o' : List ℕ} {at p k : ℕ} (ws : List ℕ) → length ws ≤ k → Wrote o o' at p ws → p ≤ at + k
-ends-within ws few w = omega (arith, w.ends)
+pub ends_within : {o o' : List ℕ} {at p k : ℕ} (ws : List ℕ) → length ws ≤ k → Wrote o o' at p ws → p ≤ at + k
+ends_within ws few w = omega (arith, w.ends)
 
 -- A choice has no more bytes than the longer branch.
-pub pick-few : {k : ℕ} (b : Bool) (xs ys : List ℕ) → length xs ≤ k → length ys ≤ k → length (pick b xs ys) ≤ k
-pick-few {k} b xs ys x y = pick_case (λ (ws : List ℕ). length ws ≤ k) b (λ e. x) λ e. y
+pub pick_few : {k : ℕ} (b : Bool) (xs ys : List ℕ) → length xs ≤ k → length ys ≤ k → length (pick b xs ys) ≤ k
+pick_few {k} b xs ys x y = pick_case (λ (ws : List ℕ). length ws ≤ k) b (λ e. x) λ e. y
 
 -- A number of at most so many digits has no more bytes than that.
-pub digits-few : (most n : ℕ) → length (digits most n) ≤ most
+pub digits_few : (most n : ℕ) → length (digits most n) ≤ most
 unfolding digits
-digits-few zero n = omega arith
-digits-few (suc most) n =
-    let fewer = digits-few most (n / 10) in
-    pick-few (ltb n 10) _ _ (omega arith) (simp length-append (omega arith))
+digits_few zero n = omega arith
+digits_few (suc most) n =
+    let fewer = digits_few most (n / 10) in
+    pick_few (ltb n 10) _ _ (omega arith) (simp length-append (omega arith))
 
 pub digits_end : (most n : ℕ) {o o' : List ℕ} {at p : ℕ} → Wrote o o' at p (digits most n) → p ≤ at + most
-digits_end most n w = ends-within (digits most n) (digits-few most n) w
+digits_end most n w = ends_within (digits most n) (digits_few most n) w
 
 -- The three returns of `number`: no digit is allowed, one is enough, or the digits in front and then the last.
 pub no_digits : (o : List ℕ) (at most n : ℕ) → most ≡ 0 → Wrote o o at at (digits most n)
@@ -67,13 +67,13 @@ pub byte_then_number : {o o' o'' : List ℕ} {at p q byte : ℕ} (n : ℕ) → W
 byte_then_number n front back = two_parts front back
 
 pub byte_then_number_end : (byte n : ℕ) {o o' : List ℕ} {at p : ℕ} → Wrote o o' at p (byte ∷ decimal n) → p ≤ at + 21
-byte_then_number_end byte n w = ends-within (byte ∷ decimal n) (omega (arith, digits-few 20 n)) w
+byte_then_number_end byte n w = ends_within (byte ∷ decimal n) (omega (arith, digits_few 20 n)) w
 
 pub number_then_byte : {o o' o'' : List ℕ} {at p q end : ℕ} (n : ℕ) → Wrote o o' at p (decimal n) → Wrote o' o'' p q (end ∷ []) → Wrote o o'' at q (decimal_then end n)
 number_then_byte n front back = two_parts front back
 
 pub number_then_byte_end : (end n : ℕ) {o o' : List ℕ} {at p : ℕ} → Wrote o o' at p (decimal_then end n) → p ≤ at + 21
-number_then_byte_end end n w = ends-within (decimal_then end n) (simp length-append (omega (arith, digits-few 20 n))) w
+number_then_byte_end end n w = ends_within (decimal_then end n) (simp length-append (omega (arith, digits_few 20 n))) w
 
 -- The first line of a listing, and that of a refusal.
 pub counts_line : {answer : Lowered} {r w d : ℕ} {o o₁ o₂ o₃ o₄ : List ℕ} {at p q s next : ℕ} → answer ≡ Listing r w d
@@ -90,8 +90,8 @@ refusal_line e refused number place = rw e (three_parts refused number place)
 
 pub first_line_few : (answer : Lowered) → length (first_line_text answer) ≤ 66
 unfolding first_line_text
-first_line_few (Listing r w d) = simp length-append (omega (arith, digits-few 20 r, digits-few 20 w, digits-few 20 d))
-first_line_few (Refused number place) = simp length-append (omega (arith, digits-few 20 number, digits-few 20 place))
+first_line_few (Listing r w d) = simp length-append (omega (arith, digits_few 20 r, digits_few 20 w, digits_few 20 d))
+first_line_few (Refused number place) = simp length-append (omega (arith, digits_few 20 number, digits_few 20 place))
 
 pub first_line_end : (answer : Lowered) {o o' : List ℕ} {at p : ℕ} → Wrote o o' at p (first_line_text answer) → p ≤ at + 66
-first_line_end answer w = ends-within (first_line_text answer) (first_line_few answer) w
+first_line_end answer w = ends_within (first_line_text answer) (first_line_few answer) w

@@ -16,32 +16,32 @@ use Rattle.meaning.specs.declared.Lowered.{Lowered}
 use Rattle.meaning.specs.declared.Lowered.TheVariants.{Listing, Refused}
 use Rattle.text.specs.Text.{bytes, decimal, token_text, tag_text, line_start_text, tokens_text, line_text, lines_text}
 use Rattle.text.specs.Text.{expression_length, first_line_text, words_listed, answer_text}
-use Rattle.text.proofs.Laws.{digits-few, pick-few, ends-within, first_line_few, first_line_end}
+use Rattle.text.proofs.Laws.{digits_few, pick_few, ends_within, first_line_few, first_line_end}
 
 -- A token has at most 21 bytes, a letter and twenty digits; a tag has three, and what stands before the tokens 26.
 token_few : (w : ℕ) → length (token_text w) ≤ 21
 unfolding token_text
 token_few w =
-    let lettered : suc (length (decimal (argument w))) ≤ 21 = omega (arith, digits-few 20 (argument w)) in
-    pick-few (eqb (operation w) 1) _ _ lettered
-    (pick-few (eqb (operation w) 2) _ _ lettered
-    (pick-few (eqb (operation w) 3) _ _ (omega arith)
-    (pick-few (eqb (operation w) 4) _ _ (omega arith)
-    (pick-few (eqb (operation w) 5) _ _ (omega arith)
-    (pick-few (eqb (operation w) 6) _ _ (omega arith) (pick-few (eqb (operation w) 7) _ _ (omega arith) (omega arith)))))))
+    let lettered : suc (length (decimal (argument w))) ≤ 21 = omega (arith, digits_few 20 (argument w)) in
+    pick_few (eqb (operation w) 1) _ _ lettered
+    (pick_few (eqb (operation w) 2) _ _ lettered
+    (pick_few (eqb (operation w) 3) _ _ (omega arith)
+    (pick_few (eqb (operation w) 4) _ _ (omega arith)
+    (pick_few (eqb (operation w) 5) _ _ (omega arith)
+    (pick_few (eqb (operation w) 6) _ _ (omega arith) (pick_few (eqb (operation w) 7) _ _ (omega arith) (omega arith)))))))
 
-tag-few : (o : ℕ) → length (tag_text o) ≤ 3
+tag_few : (o : ℕ) → length (tag_text o) ≤ 3
 unfolding tag_text
-tag-few o =
-    pick-few (eqb o 9) _ _ (omega arith)
-    (pick-few (eqb o 10) _ _ (omega arith)
-    (pick-few (eqb o 11) _ _ (omega arith) (pick-few (eqb o 12) _ _ (omega arith) (omega arith))))
+tag_few o =
+    pick_few (eqb o 9) _ _ (omega arith)
+    (pick_few (eqb o 10) _ _ (omega arith)
+    (pick_few (eqb o 11) _ _ (omega arith) (pick_few (eqb o 12) _ _ (omega arith) (omega arith))))
 
 line_start_few : (w : ℕ) → length (line_start_text w) ≤ 26
 unfolding line_start_text
 line_start_few w =
-    pick-few (eqb (operation w) 14) _ _ (omega arith)
-    (simp length-append (omega (arith, tag-few (operation w), digits-few 20 (argument w))))
+    pick_few (eqb (operation w) 14) _ _ (omega arith)
+    (simp length-append (omega (arith, tag_few (operation w), digits_few 20 (argument w))))
 
 -- An expression has at most 22 bytes a word, and a line at most 27 more for its store.
 tokens_few : (ws : List ℕ) → length (tokens_text ws) ≤ 22 * length ws
@@ -55,13 +55,13 @@ line_few ws w = simp length-append (omega (arith, line_start_few w, tokens_few w
 
 -- The bytes of each part bound the place behind it.
 pub tag_end : (o : ℕ) {b b' : List ℕ} {at p : ℕ} → Wrote b b' at p (tag_text o) → p ≤ at + 3
-tag_end o x = ends-within (tag_text o) (tag-few o) x
+tag_end o x = ends_within (tag_text o) (tag_few o) x
 
 pub line_start_end : (w : ℕ) {o o' : List ℕ} {at p : ℕ} → Wrote o o' at p (line_start_text w) → p ≤ at + 26
-line_start_end w x = ends-within (line_start_text w) (line_start_few w) x
+line_start_end w x = ends_within (line_start_text w) (line_start_few w) x
 
 pub tokens_end : (ws : List ℕ) {o o' : List ℕ} {at p : ℕ} → Wrote o o' at p (tokens_text ws) → p ≤ at + 22 * length ws
-tokens_end ws x = ends-within (tokens_text ws) (tokens_few ws) x
+tokens_end ws x = ends_within (tokens_text ws) (tokens_few ws) x
 
 -- The loop of `tokens`: those from the i-th word on remain.
 pub record Spelling (expression o : List ℕ) (at : ℕ) (o' : List ℕ) (p i : ℕ) : Type 0 where
@@ -188,12 +188,12 @@ module _ {listing o : List ℕ} {at : ℕ} {o' : List ℕ} {p from end : ℕ} (g
       done (rw (no_line [] (drop from listing) none) at g.going)
 
 -- The words that a listing's answer counts are a part of the output.
-words_of-listing : {answer : Lowered} {r w d : ℕ} → answer ≡ Listing r w d → words_listed answer ≡ w
+words_of_listing : {answer : Lowered} {r w d : ℕ} → answer ≡ Listing r w d → words_listed answer ≡ w
 unfolding words_listed
-words_of-listing e = rw e refl
+words_of_listing e = rw e refl
 
 pub listed_part : {answer : Lowered} {r w d : ℕ} (out : List ℕ) → answer ≡ Listing r w d → words_listed answer ≤ length out → w ≡ length (take w out)
-listed_part {w = w} out e h = sym (length-take-le w out (omega (arith, words_of-listing e)))
+listed_part {w = w} out e h = sym (length-take-le w out (omega (arith, words_of_listing e)))
 
 -- The room that the whole asks for is enough for the lines behind the first.
 pub lines_room : {answer : Lowered} {r w d : ℕ} {o o' : List ℕ} {p : ℕ} (out : List ℕ) → answer ≡ Listing r w d
@@ -201,7 +201,7 @@ pub lines_room : {answer : Lowered} {r w d : ℕ} {o o' : List ℕ} {p : ℕ} (o
     → p + 27 * length (take w out) ≤ length o'
 lines_room {answer} {o = o} {o'} out e room x =
     let long : length o' ≡ length o = rw x.holds (length-written o 0 (first_line_text answer)) in
-    omega (arith, words_of-listing e, listed_part out e room.0, room.1, first_line_end answer x)
+    omega (arith, words_of_listing e, listed_part out e room.0, room.1, first_line_end answer x)
 
 -- A refusal has its first line alone; a listing has its lines behind it.
 pub refusal_text : {answer : Lowered} {number place : ℕ} {o o' : List ℕ} {at p : ℕ} (out : List ℕ) → answer ≡ Refused number place
@@ -209,22 +209,22 @@ pub refusal_text : {answer : Lowered} {number place : ℕ} {o o' : List ℕ} {at
 unfolding answer_text words_listed lines_text
 refusal_text out e x = rw (e, append-nil) (rw e at x)
 
-pub listing-text : {answer : Lowered} {r w d : ℕ} {o o' o'' : List ℕ} {at p q : ℕ} (out : List ℕ) → answer ≡ Listing r w d
+pub listing_text : {answer : Lowered} {r w d : ℕ} {o o' o'' : List ℕ} {at p q : ℕ} (out : List ℕ) → answer ≡ Listing r w d
     → Wrote o o' at p (first_line_text answer) → Wrote o' o'' p q (lines_text [] (take w out)) → Wrote o o'' at q (answer_text answer out)
 unfolding answer_text words_listed
-listing-text out e x y = rw e (two_parts (rw e at x) y)
+listing_text out e x y = rw e (two_parts (rw e at x) y)
 
 -- The text has no more bytes than the room that is asked for.
 lines_few : (before ws : List ℕ) → length (lines_text before ws) ≤ 22 * length before + 27 * length ws
 unfolding lines_text
 lines_few before [] = omega arith
 lines_few before (w ∷ ws) =
-    pick-few (leb 9 (operation w)) _ _
+    pick_few (leb 9 (operation w)) _ _
     (simp length-append (omega (arith, line_few before w, lines_few [] ws)))
     (omega (arith, lines_few (before ++ (w ∷ [])) ws, length-append before (w ∷ [])))
 
-pub answer-few : (answer : Lowered) (out : List ℕ) → length (answer_text answer out) ≤ 128 + 32 * words_listed answer
+pub answer_few : (answer : Lowered) (out : List ℕ) → length (answer_text answer out) ≤ 128 + 32 * words_listed answer
 unfolding answer_text
-answer-few answer out =
+answer_few answer out =
     let words : length (take (words_listed answer) out) ≤ words_listed answer = simp length-take (omega arith) in
     simp length-append (omega (arith, first_line_few answer, lines_few [] (take (words_listed answer) out)))

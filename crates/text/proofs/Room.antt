@@ -16,12 +16,12 @@ use Rattle.text.specs.declared.Printed.{Printed}
 use Rattle.text.specs.declared.Printed.TheVariants.{Text, NoRoom}
 use Rattle.text.specs.Text.{words_listed, answer_text}
 use Rattle.text.specs.Page.{has_room, room_for, printed, page_after, Prints}
-use Rattle.text.proofs.ListingLines.{answer-few}
+use Rattle.text.proofs.ListingLines.{answer_few}
 
 -- The four returns of `has_room`.
-pub listing-too_short : (words listed page : ℕ) → listed < words → false ≡ has_room words listed page
+pub listing_too_short : (words listed page : ℕ) → listed < words → false ≡ has_room words listed page
 unfolding has_room
-listing-too_short words listed page h = pick_no _ (lt-leb _ _ h) refl
+listing_too_short words listed page h = pick_no _ (lt-leb _ _ h) refl
 
 module _ (words listed page : ℕ) (inside : words ≤ listed) where
   pub no_first_line : page < 128 → false ≡ has_room words listed page
@@ -53,15 +53,15 @@ module _ {b : Bool} {words : ℕ} (answer : Lowered) (listing page : List ℕ) (
   page_suffices e = rw (← counted) (leb-true _ _ (has_both e).1)
 
   -- The two returns of `text`.
-  pub text-printed : {page' : List ℕ} {end : ℕ} → b ≡ true → Wrote page page' 0 end (answer_text answer listing) → Prints answer listing page (Text end) page'
+  pub text_printed : {page' : List ℕ} {end : ℕ} → b ≡ true → Wrote page page' 0 end (answer_text answer listing) → Prints answer listing page (Text end) page'
   unfolding printed page_after
-  text-printed {end = end} e w =
+  text_printed {end = end} e w =
       let ends : end ≡ length (answer_text answer listing) = omega (arith, w.ends) in
       record { answers = pick_yes _ (room_is ∙ e) (rw ends refl); holds = pick_yes _ (room_is ∙ e) w.holds }
 
-  pub nothing-printed : b ≡ false → Prints answer listing page NoRoom page
+  pub nothing_printed : b ≡ false → Prints answer listing page NoRoom page
   unfolding printed page_after
-  nothing-printed e = record { answers = pick_no _ (room_is ∙ e) refl; holds = pick_no _ (room_is ∙ e) refl }
+  nothing_printed e = record { answers = pick_no _ (room_is ∙ e) refl; holds = pick_no _ (room_is ∙ e) refl }
 
 -- What a caller learns: a text that is said to be printed is written and ends inside the page, and where there is room it is printed.
 module _ {answer : Lowered} {listing page : List ℕ} {r : Printed} {page' : List ℕ} (p : Prints answer listing page r page') where
@@ -87,7 +87,7 @@ module _ {answer : Lowered} {listing page : List ℕ} {r : Printed} {page' : Lis
   printed_ends_inside e =
       let long : 128 + 32 * words_listed answer ≤ length page = leb-true _ _ (both_hold (leb (words_listed answer) (length listing)) (room_was_there e)).1 in
       let w = printed_is_written e in
-      omega (arith, w.ends, still_long w, answer-few answer listing)
+      omega (arith, w.ends, still_long w, answer_few answer listing)
 
   pub room_is_used : words_listed answer ≤ length listing → 128 + 32 * words_listed answer ≤ length page → r ≡ NoRoom → ⊥
   unfolding printed room_for has_room

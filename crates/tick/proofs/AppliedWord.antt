@@ -83,12 +83,12 @@ value_after cur atoms w st p q =
 -- What a word names is lent.
 module _ {cur atoms w : ℕ} (l : Lent cur atoms w) where
   -- The atom that a word names is lent.
-  pub atom-lent : operation w ≡ 1 → argument w < atoms
-  atom-lent q = l.atom q
+  pub atom_lent : operation w ≡ 1 → argument w < atoms
+  atom_lent q = l.atom q
 
   -- The register that a word names is lent.
-  pub register-lent : operation w ≡ 2 → argument w < cur
-  register-lent q = l.register q
+  pub register_lent : operation w ≡ 2 → argument w < cur
+  register_lent q = l.register q
 
 -- What the code asks of the stack before it reads or writes there.
 module _ {registers lent : ℕ} {places : List ℕ} {h w : ℕ} (r : Applicable registers lent places h w) where
@@ -109,12 +109,12 @@ module _ {registers lent : ℕ} {places : List ℕ} {h w : ℕ} (r : Applicable 
       ]
 
   -- The top lies within the slice.
-  pub room_for-one : 5 ≤ operation w → h - 1 < length places
-  room_for-one q = omega (arith, one_there q, r.inside)
+  pub room_for_one : 5 ≤ operation w → h - 1 < length places
+  room_for_one q = omega (arith, one_there q, r.inside)
 
   -- The value below the top lies within the slice.
-  pub room_for-two : 7 ≤ operation w → h - 2 < length places
-  room_for-two q = omega (arith, two_there q, r.inside)
+  pub room_for_two : 7 ≤ operation w → h - 2 < length places
+  room_for_two q = omega (arith, two_there q, r.inside)
 
   -- The top is a bit.
   pub top_bit : 5 ≤ operation w → get_or places (h - 1) 0 ≤ 1
@@ -145,13 +145,13 @@ module _ {registers lent : ℕ} {places : List ℕ} {h w : ℕ} (r : Applicable 
   value_room e q = rw (e, value_row 1 (omega arith) (omega arith)) (omega (arith, room_above q))
 
   pub not_room : {v : Row} → v ≡ row_of 6 → 5 ≤ operation w → h - v.takes < length places
-  not_room e q = rw (e, change_row 6 (omega arith) (omega arith)) (room_for-one q)
+  not_room e q = rw (e, change_row 6 (omega arith) (omega arith)) (room_for_one q)
 
   pub and_room : {v : Row} → v ≡ row_of 7 → 7 ≤ operation w → h - v.takes < length places
-  and_room e q = rw (e, join_row 7 (omega arith) (omega arith)) (room_for-two q)
+  and_room e q = rw (e, join_row 7 (omega arith) (omega arith)) (room_for_two q)
 
   pub or_room : {v : Row} → v ≡ row_of 8 → 7 ≤ operation w → h - v.takes < length places
-  or_room e q = rw (e, join_row 8 (omega arith) (omega arith)) (room_for-two q)
+  or_room e q = rw (e, join_row 8 (omega arith) (omega arith)) (room_for_two q)
 
   -- Each kind of operation, as the code ends it.
   module _ {cur atoms after : List ℕ} {n : ℕ} where
@@ -181,7 +181,7 @@ module _ {registers lent : ℕ} {places : List ℕ} {h w : ℕ} (r : Applicable 
         record {
           long = rw b (length-set places (h - 1) (1 - get_or places (h - 1) 0));
           high = rw (a, change_row (operation w) (omega arith) (omega arith)) refl;
-          holds = rw (a, b, q, put_on places (h - 1) (1 - get_or places (h - 1) 0) (room_for-one u), one_off places h (one_there u)) refl;
+          holds = rw (a, b, q, put_on places (h - 1) (1 - get_or places (h - 1) 0) (room_for_one u), one_off places h (one_there u)) refl;
         }
 
     -- Operation 7 is applied by putting the product of the two topmost values in their place.
@@ -195,7 +195,7 @@ module _ {registers lent : ℕ} {places : List ℕ} {h w : ℕ} (r : Applicable 
         record {
           long = rw b (length-set places (h - 2) x);
           high = rw (a, join_row (operation w) (omega arith) (omega arith)) refl;
-          holds = rw (a, b, q, put_on places (h - 2) x (room_for-two (omega arith)), two_off places h (two_there (omega arith)), v) refl;
+          holds = rw (a, b, q, put_on places (h - 2) x (room_for_two (omega arith)), two_off places h (two_there (omega arith)), v) refl;
         }
 
     -- Operation 8 is applied by putting the larger of the two topmost values in their place.
@@ -210,7 +210,7 @@ module _ {registers lent : ℕ} {places : List ℕ} {h w : ℕ} (r : Applicable 
         record {
           long = rw b (length-set places (h - 2) x);
           high = rw (a, join_row (operation w) (omega arith) (omega arith)) refl;
-          holds = rw (a, b, q, put_on places (h - 2) x (room_for-two (omega arith)), two_off places h (two_there (omega arith)), v) refl;
+          holds = rw (a, b, q, put_on places (h - 2) x (room_for_two (omega arith)), two_off places h (two_there (omega arith)), v) refl;
         }
 
   -- Operation 5 leaves a bit as it is.
@@ -222,26 +222,26 @@ module _ {registers lent : ℕ} {places : List ℕ} {h w : ℕ} (r : Applicable 
       record { long = refl; high = rw (a, change_row (operation w) (omega arith) (omega arith)) refl; holds = rw (still, q) refl }
 
 -- The negation of a bit is a bit.
-negated-bits : (st : List ℕ) → all_bits st ≡ true → all_bits (negated st) ≡ true
+negated_bits : (st : List ℕ) → all_bits st ≡ true → all_bits (negated st) ≡ true
 unfolding negated
-negated-bits [] e = e
-negated-bits (x ∷ st) e = more_bits (1 - x) st (omega arith) (rest_bits x st e)
+negated_bits [] e = e
+negated_bits (x ∷ st) e = more_bits (1 - x) st (omega arith) (rest_bits x st e)
 
 -- The AND of two bits is a bit.
-anded-bits : (st : List ℕ) → all_bits st ≡ true → all_bits (anded st) ≡ true
+anded_bits : (st : List ℕ) → all_bits st ≡ true → all_bits (anded st) ≡ true
 unfolding anded all_bits
-anded-bits [] e = refl
-anded-bits (y ∷ []) e = refl
-anded-bits (y ∷ x ∷ st) e =
+anded_bits [] e = refl
+anded_bits (y ∷ []) e = refl
+anded_bits (y ∷ x ∷ st) e =
     let f = rest_bits y (x ∷ st) e in
     more_bits (x * y) st (omega (arith, mul-le-mul (first_bit x st f) (first_bit y (x ∷ st) e))) (rest_bits x st f)
 
 -- The OR of two bits is a bit.
-ored-bits : (st : List ℕ) → all_bits st ≡ true → all_bits (ored st) ≡ true
+ored_bits : (st : List ℕ) → all_bits st ≡ true → all_bits (ored st) ≡ true
 unfolding ored all_bits
-ored-bits [] e = refl
-ored-bits (y ∷ []) e = refl
-ored-bits (y ∷ x ∷ st) e =
+ored_bits [] e = refl
+ored_bits (y ∷ []) e = refl
+ored_bits (y ∷ x ∷ st) e =
     let f = rest_bits y (x ∷ st) e in
     more_bits (max x y) st (max-le (first_bit x st f) (first_bit y (x ∷ st) e)) (rest_bits x st f)
 
@@ -255,15 +255,15 @@ abbrev Bits : List ℕ → Type 0
 Bits st = all_bits st ≡ true
 
 -- A word leaves bits on a stack of bits, where the atom or the register that it names is a bit.
-pub bits-after : (cur atoms : List ℕ) (w : ℕ) (st : List ℕ) → (operation w ≡ 1 → get_or atoms (argument w) 0 ≤ 1) → (operation w ≡ 2 → get_or cur (argument w) 0 ≤ 1)
+pub bits_after : (cur atoms : List ℕ) (w : ℕ) (st : List ℕ) → (operation w ≡ 1 → get_or atoms (argument w) 0 ≤ 1) → (operation w ≡ 2 → get_or cur (argument w) 0 ≤ 1)
     → all_bits st ≡ true → all_bits (stack_after cur atoms w st) ≡ true
 unfolding stack_after
-bits-after cur atoms w st a c e =
+bits_after cur atoms w st a c e =
     pick_case Bits _ (λ q. more_bits _ st (a (eqb-true _ _ q)) e)
     λ _. pick_case Bits _ (λ q. more_bits _ st (c (eqb-true _ _ q)) e)
     λ _. pick_case Bits _ (λ _. more_bits 0 st (omega arith) e)
     λ _. pick_case Bits _ (λ _. more_bits 1 st (omega arith) e)
     λ _. pick_case Bits _ (λ _. e)
-    λ _. pick_case Bits _ (λ _. negated-bits st e)
-    λ _. pick_case Bits _ (λ _. anded-bits st e)
-    λ _. pick_case Bits _ (λ _. ored-bits st e) λ _. tail_bits st e
+    λ _. pick_case Bits _ (λ _. negated_bits st e)
+    λ _. pick_case Bits _ (λ _. anded_bits st e)
+    λ _. pick_case Bits _ (λ _. ored_bits st e) λ _. tail_bits st e

@@ -19,10 +19,10 @@ use Rattle.meaning.specs.Tick.{top, stack_after, stored, matched, all_bits, name
 use Rattle.meaning.specs.declared.Row.{Row}
 use Rattle.meaning.specs.declared.Checked.TheVariants.{Described}
 use Rattle.words.proofs.Taken.{second_holds}
-use Rattle.meaning.proofs.Operations.{operation-is_store, below_9_is_no_store}
-use Rattle.listing.proofs.Laws.{end_row, Fitting, register-below, described-fits, described-goes_on, described-ends}
+use Rattle.meaning.proofs.Operations.{operation_is_store, below_9_is_no_store}
+use Rattle.listing.proofs.Laws.{end_row, Fitting, register_below, described_fits, described_goes_on, described_ends}
 use Rattle.tick.specs.Stack.{stack_in, Applicable, Applied, Ready, Evaluated}
-use Rattle.tick.proofs.AppliedWord.{bits-after, first_bit, rest_bits}
+use Rattle.tick.proofs.AppliedWord.{bits_after, first_bit, rest_bits}
 use Rattle.listing.proofs.OnePass.{word_at, behind}
 
 -- A byte of bits is a bit.
@@ -32,10 +32,10 @@ bit_at (x ∷ xs) zero e h = first_bit x xs e
 bit_at (x ∷ xs) (suc p) e h = bit_at xs p (rest_bits x xs e) (omega arith)
 
 -- The atoms named by the later words are bits too.
-later-bits : (atom above later : Bool) → pick atom (pick above false later) later ≡ true → later ≡ true
+later_bits : (atom above later : Bool) → pick atom (pick above false later) later ≡ true → later ≡ true
 unfolding pick
-later-bits true above later e = (second_holds above e).1
-later-bits false above later e = e
+later_bits true above later e = (second_holds above e).1
+later_bits false above later e = e
 
 -- What one word does to the stores and the match bit that remain.
 module _ (cur atoms : List ℕ) (w : ℕ) (ws st : List ℕ) where
@@ -130,7 +130,7 @@ module _ {ws cur atoms next next' stack stack' : List ℕ} {k h p : ℕ} (r : Re
 
   -- The word at p fits.
   fitting_here : Fitting (registers ws) k h (word_at ws p)
-  fitting_here = described-fits _ _ _ _ _ _ fits_here
+  fitting_here = described_fits _ _ _ _ _ _ fits_here
 
   -- The atoms that the word and the later ones name are lent.
   atoms_here : max (pick (eqb (operation (word_at ws p)) 1) (argument (word_at ws p) + 1) 0) (atoms_named (behind ws p)) ≤ length atoms
@@ -145,7 +145,7 @@ module _ {ws cur atoms next next' stack stack' : List ℕ} {k h p : ℕ} (r : Re
 
   -- A register that is named is lent, where all are.
   register_lent_here : {lent : ℕ} → registers ws ≤ lent → operation (word_at ws p) ≡ 2 → argument (word_at ws p) < lent
-  register_lent_here m q = omega (arith, register-below fitting_here q, m)
+  register_lent_here m q = omega (arith, register_below fitting_here q, m)
 
   -- The atoms that the word and the later ones name are bits.
   bits_here : pick (eqb (operation (word_at ws p)) 1) (pick (ltb 1 (get_or atoms (argument (word_at ws p)) 0)) false (named_bits atoms (behind ws p))) (named_bits atoms (behind ws p)) ≡ true
@@ -159,7 +159,7 @@ module _ {ws cur atoms next next' stack stack' : List ℕ} {k h p : ℕ} (r : Re
   -- A register that is named is a bit.
   register_bit_here : operation (word_at ws p) ≡ 2 → get_or cur (argument (word_at ws p)) 0 ≤ 1
   register_bit_here q =
-      let b = register-below fitting_here q in
+      let b = register_below fitting_here q in
       let n : argument (word_at ws p) < length (take (registers ws) cur) = rw (length-take-le (registers ws) cur r.cur_long) b in
       rw (get_or-take (registers ws) cur (argument (word_at ws p)) 0 b) at (bit_at (take (registers ws) cur) (argument (word_at ws p)) r.cur_bits n)
 
@@ -194,13 +194,13 @@ module _ {ws cur atoms next next' stack stack' : List ℕ} {k h p : ℕ} (r : Re
         inside = omega arith;
         going = rw (a.holds, ← stored_past cur atoms (word_at ws p) (behind ws p) (stack_in stack' h) none) (rw (drop_here ws p l) at g.going);
         matches = g.matches ∙ rw (drop_here ws p l, a.holds) (matched_past cur atoms (word_at ws p) (behind ws p) (stack_in stack' h) past);
-        fits = rw (a.high, ← no_store_more (word_at ws p) k none) (described-goes_on _ _ _ _ _ _ fits_here past);
+        fits = rw (a.high, ← no_store_more (word_at ws p) k none) (described_goes_on _ _ _ _ _ _ fits_here past);
         left = left_here ∙ rw (pick_false {A = ℕ} 1 0 none, zero-add) refl;
         named = omega (arith, atoms_here, le-max_right (pick (eqb (operation (word_at ws p)) 1) (argument (word_at ws p) + 1) 0) (atoms_named (behind ws p)));
         deep = rw a.high (omega (arith, a.long, deep_here, le-max_right (height h (word_at ws p)) (deepest_from (height h (word_at ws p)) (behind ws p))));
         high = omega (arith, a.high, a.long, deep_here, le-max_left (height h (word_at ws p)) (deepest_from (height h (word_at ws p)) (behind ws p)));
-        atom_bits = later-bits _ _ _ bits_here;
-        bits = rw a.holds (bits-after cur atoms (word_at ws p) (stack_in stack' h) atom_bit_here register_bit_here g.bits);
+        atom_bits = later_bits _ _ _ bits_here;
+        bits = rw a.holds (bits_after cur atoms (word_at ws p) (stack_in stack' h) atom_bit_here register_bit_here g.bits);
         long = a.long ∙ g.long;
         room = g.room;
       }
@@ -227,11 +227,11 @@ module _ {ws cur atoms next next' stack stack' : List ℕ} {k h p : ℕ} (r : Re
     module _ (o : operation (word_at ws p) ≡ 14 → ⊥) where
       -- What is not the match is a store.
       store_here : is_store (word_at ws p) ≡ true
-      store_here = operation-is_store (word_at ws p) q (omega (arith, fitting_here.operand.last))
+      store_here = operation_is_store (word_at ws p) q (omega (arith, fitting_here.operand.last))
 
       -- The store's register lies within `next`.
-      pub room_for-store : k < length next'
-      room_for-store = omega (arith, left_here, g.room, pick_true {A = ℕ} 1 0 store_here)
+      pub room_for_store : k < length next'
+      room_for_store = omega (arith, left_here, g.room, pick_true {A = ℕ} 1 0 store_here)
 
       -- A register takes its store, and the stack is empty.
       stored_there : {next'' : List ℕ} {n : ℕ} → n ≡ k + 1 → next'' ≡ set next' k (get_or stack' 0 0) → Evaluating ws cur atoms next next'' stack stack' n 0 (p + 1)
@@ -248,12 +248,12 @@ module _ {ws cur atoms next next' stack stack' : List ℕ} {k h p : ℕ} (r : Re
                 (sym (rw stack_here refl))
                 (put_there u v));
             matches = g.matches ∙ rw (drop_here ws p l) (matched_past cur atoms (word_at ws p) (behind ws p) (stack_in stack' h) o ∙ rw empty refl);
-            fits = rw u (rw (more, low) at (described-goes_on _ _ _ _ _ _ fits_here o));
+            fits = rw u (rw (more, low) at (described_goes_on _ _ _ _ _ _ fits_here o));
             left = left_here ∙ rw (more, u) (sym (add_assoc k 1 _));
             named = omega (arith, atoms_here, le-max_right (pick (eqb (operation (word_at ws p)) 1) (argument (word_at ws p) + 1) 0) (atoms_named (behind ws p)));
             deep = omega (arith, rw low at deep_here, le-max_right 0 (deepest_from 0 (behind ws p)));
             high = omega arith;
-            atom_bits = later-bits _ _ _ bits_here;
+            atom_bits = later_bits _ _ _ bits_here;
             bits = refl;
             long = g.long;
             room = rw (v, length-set next' k (get_or stack' 0 0)) g.room;
@@ -273,7 +273,7 @@ module _ {ws cur atoms next next' stack stack' : List ℕ} {k h p : ℕ} (r : Re
       let q : 9 ≤ operation (word_at ws p) = omega arith in
       record {
         answer = sym (g.matches ∙ rw (drop_here ws p l) (matched_here cur atoms (word_at ws p) (behind ws p) (stack_in stack' h) o ∙ rw (stack_here q) refl));
-        holds = (done (rw (drop_here ws p l, stored_past cur atoms (word_at ws p) (behind ws p) (stack_in stack' h) (match_no_store (word_at ws p) o), described-ends _ _ _ _ _ _ fits_here o) at g.going)).holds;
+        holds = (done (rw (drop_here ws p l, stored_past cur atoms (word_at ws p) (behind ws p) (stack_in stack' h) (match_no_store (word_at ws p) o), described_ends _ _ _ _ _ _ fits_here o) at g.going)).holds;
       }
 
 -- A described listing has its match.

@@ -67,10 +67,10 @@ faulty_check Described ws atoms e q = let z : ◌≡◌ {A = ℕ} 0 1 = cc in om
 faulty_check (FaultyAt place) ws atoms e q = let z : ◌≡◌ {A = ℕ} 0 1 = cc in omega arith
 
 -- A listing that is whole is described, and its wants are known.
-whole-check : {v : Wanted} (c : Checked) (ws atoms : List ℕ) → surveyed_if c ws atoms ≡ Whole v → (c ≡ Described) × (v ≡ wanted ws atoms)
+whole_check : {v : Wanted} (c : Checked) (ws atoms : List ℕ) → surveyed_if c ws atoms ≡ Whole v → (c ≡ Described) × (v ≡ wanted ws atoms)
 unfolding surveyed_if
-whole-check Described ws atoms e = (refl, (cc))
-whole-check (FaultyAt place) ws atoms e = absurd (let z : ◌≡◌ {A = ℕ} 0 1 = cc in omega arith)
+whole_check Described ws atoms e = (refl, (cc))
+whole_check (FaultyAt place) ws atoms e = absurd (let z : ◌≡◌ {A = ℕ} 0 1 = cc in omega arith)
 
 module _ {s : Surveyed} (ws atoms : List ℕ) (e : s ≡ surveyed ws atoms) where
   -- The listing is not described.
@@ -79,14 +79,14 @@ module _ {s : Surveyed} (ws atoms : List ℕ) (e : s ≡ surveyed ws atoms) wher
   faulty_undescribed q = record { never = faulty_check (check ws) ws atoms (sym e ∙ q) }
 
   -- The listing is described.
-  pub whole-described : {v : Wanted} → s ≡ Whole v → check ws ≡ Described
+  pub whole_described : {v : Wanted} → s ≡ Whole v → check ws ≡ Described
   unfolding surveyed
-  whole-described q = (whole-check (check ws) ws atoms (sym e ∙ q)).0
+  whole_described q = (whole_check (check ws) ws atoms (sym e ∙ q)).0
 
   -- What a whole listing wants is known.
-  pub whole-wanted : {v : Wanted} → s ≡ Whole v → v ≡ wanted ws atoms
+  pub whole_wanted : {v : Wanted} → s ≡ Whole v → v ≡ wanted ws atoms
   unfolding surveyed
-  whole-wanted q = (whole-check (check ws) ws atoms (sym e ∙ q)).1
+  whole_wanted q = (whole_check (check ws) ws atoms (sym e ∙ q)).1
 
 -- A faulty listing is refused with 21.
 pub faulty_tick : {place : ℕ} (ws cur atoms next stack : List ℕ) → FaultyAt place ≡ check ws → Stepped ws cur atoms next next stack stack (Refused 21 place)
@@ -108,9 +108,9 @@ module _ {v : Wanted} {b : Bool} (ws cur atoms next stack : List ℕ) (d : check
   short = sym (c ∙ rw e refl)
 
   -- What is too short is refused with 22.
-  pub short-tick : b ≡ true → Stepped ws cur atoms next next stack stack (Refused 22 0)
+  pub short_tick : b ≡ true → Stepped ws cur atoms next next stack stack (Refused 22 0)
   unfolding tick tick_if next_after stack_left
-  short-tick q = record { answer = sym (rw d (pick_true _ _ (short ∙ q))); next_holds = refl; stack_holds = refl }
+  short_tick q = record { answer = sym (rw d (pick_true _ _ (short ∙ q))); next_holds = refl; stack_holds = refl }
 
   module _ (q : b ≡ false) where
     -- A byte above 1 of either kind is refused with 23.

@@ -20,8 +20,8 @@ use Rattle.listing.specs.Step.{noted, ended, Undescribed}
 use Rattle.listing.specs.declared.Tally.{Tally}
 use Rattle.listing.specs.declared.Noted.{Noted}
 use Rattle.listing.specs.declared.Noted.TheVariants.{Fits, Unfit}
-use Rattle.listing.proofs.OnePass.{word_at, behind, Passing, passing_begins, passing_on, noted-known, never_unfit, never_early}
-use Rattle.listing.proofs.OnePass.{never_unended, never_missing, ended_match, alone, all_stores, all_atoms, all_deep, described-last}
+use Rattle.listing.proofs.OnePass.{word_at, behind, Passing, passing_begins, passing_on, noted_known, never_unfit, never_early}
+use Rattle.listing.proofs.OnePass.{never_unended, never_missing, ended_match, alone, all_stores, all_atoms, all_deep, described_last}
 use Rattle.tick.specs.Survey.{surveyed_if, surveyed}
 use Rattle.tick.specs.declared.Surveyed.TheVariants.{Whole, Faulty}
 
@@ -30,8 +30,8 @@ pub fault_found : {c : Checked} {place : ℕ} (ws : List ℕ) → c ≡ check ws
 fault_found ws e q = sym q ∙ e
 
 -- The exact check does not find a described listing where there is none.
-pub never-described : {c : Checked} (ws : List ℕ) → Undescribed ws → c ≡ check ws → c ≡ Described → FaultyAt 0 ≡ check ws
-never-described ws u e q = absurd (u.never (sym e ∙ q))
+pub never_described : {c : Checked} (ws : List ℕ) → Undescribed ws → c ≡ check ws → c ≡ Described → FaultyAt 0 ≡ check ws
+never_described ws u e q = absurd (u.never (sym e ∙ q))
 
 -- The atom is lent, and above 1.
 pub above_one : (atoms : List ℕ) (a : ℕ) (b : Bool) → a < length atoms → 1 < get_or atoms a 0 → false ≡ pick (ltb 1 (get_or atoms a 0)) false b
@@ -81,7 +81,7 @@ module _ {ws lent : List ℕ} {s : Tally} {b : Bool} {p : ℕ} {n : Noted} (g : 
     unfolding named_bits pick
     surveying_atom l u =
         let w = word_at ws p in
-        let o : operation w ≡ 1 = omega (arith, noted-known 65536 s w e q) in
+        let o : operation w ≡ 1 = omega (arith, noted_known 65536 s w e q) in
         record {
           pass = pass_on;
           bits = g.bits ∙ rw (drop_here ws p (omega arith), eq-eqb (operation w) 1 o, u) (bits_on (ltb 1 (get_or lent (argument w) 0)) b (named_bits lent (behind ws p)));
@@ -118,7 +118,7 @@ module _ {ws lent : List ℕ} {s : Tally} {b a : Bool} {p : ℕ} (g : Surveying 
     whole_there n =
         let f = not-false a v in
         let z : b ≡ named_bits lent ws = sym (g.bits ∙ rw (alone g.pass l m u f, ended_match g.pass l u f) (one_test b)) in
-        rw (described-last g.pass l m u f n, all_stores g.pass l m u f, all_atoms g.pass l m u f, all_deep g.pass l m u f, ← z) refl
+        rw (described_last g.pass l m u f n, all_stores g.pass l m u f, all_atoms g.pass l m u f, all_deep g.pass l m u f, ← z) refl
 
 -- A listing that is not described is faulty, which is the pass's answer.
 faulty_if : (c : Checked) (ws lent : List ℕ) → (c ≡ Described → ⊥) → Faulty ≡ surveyed_if c ws lent

@@ -11,7 +11,7 @@ ghost use Rattle.std.specs.Prelude.{◌≡◌, false, ◌*◌, ◌+◌, ◌-◌,
 ghost use Rattle.words.specs.Choice.{pick};
 ghost use Rattle.meaning.specs.Check.{check};
 ghost use Rattle.meaning.specs.Tick.{all_bits};
-ghost use Rattle.meaning.specs.declared.Checked.«TheVariants».{Described, Faulty as FaultyAt};
+ghost use Rattle.meaning.specs.declared.Checked.TheVariants.{Described, Faulty as FaultyAt};
 ghost use Rattle.listing.specs.Step.{Undescribed};
 ghost use Rattle.tick.specs.Survey.{wanted as wanted_of, lacking, surveyed};
 ghost use Rattle.tick.specs.Stack.{Lent, value_of, Applicable, Applied, Ready, Evaluated};

@@ -13,7 +13,7 @@ use Rattle.meaning.specs.Lowerable.{FormedTable}
 use Rattle.meaning.specs.declared.Node.{Node}
 use Rattle.meaning.specs.declared.Table.{Table}
 use Rattle.meaning.specs.declared.Table.TheVariants.{Formed, Refused as Misformed}
-use Rattle.meaning.proofs.Formed.{each-passes, p_is_lower, q_is_lower, a_formed_table}
+use Rattle.meaning.proofs.Formed.{each_passes, p_is_lower, q_is_lower, a_formed_table}
 use Rattle.tree.specs.Checks.{passes, Checkable}
 use Rattle.tree.specs.Uses.{used_by, AllOperandsWithin}
 use Rattle.tree.proofs.Lowest.{then_follows, refused_first, same_lowest}
@@ -31,8 +31,8 @@ module _ (t used : List ℕ) {refusal : ℕ} (n : ℕ) {v : Node} {b : Bool} (w 
 
 -- The searches one after the other, as the code makes them.
 module _ {t used : List ℕ} {count : ℕ} (c : Checkable t used count) where
-  abbrev formed-at : ℕ → Bool
-  formed-at n = formed_node n (node_at t n)
+  abbrev formed_at : ℕ → Bool
+  formed_at n = formed_node n (node_at t n)
 
   abbrev ranges : Table
   ranges = lowest_failing 3 (λ n. range_node (node_at t n)) (nodes t) 0 Formed
@@ -41,7 +41,7 @@ module _ {t used : List ℕ} {count : ℕ} (c : Checkable t used count) where
   once then = lowest_failing 2 (used_once t) (below (nodes t)) 0 then
 
   -- Past the length, the three searches are left.
-  whole : table t ≡ lowest_failing 1 formed-at (nodes t) 0 (once ranges)
+  whole : table t ≡ lowest_failing 1 formed_at (nodes t) 0 (once ranges)
   unfolding table
   whole =
       pick_true _ _ (eq-eqb _ _ c.fives) ∙ pick_false _ _ (ne_eqb (length t) 0 (λ e. omega (arith, c.some, c.whole)))
@@ -50,16 +50,16 @@ module _ {t used : List ℕ} {count : ℕ} (c : Checkable t used count) where
   -- A refusal by 1 is the table's answer.
   pub unformed_refused : {r : Table} {number place : ℕ} → r ≡ lowest_failing 1 (passes 1 t used) count 0 Formed → r ≡ Misformed number place → r ≡ table t
   unfolding passes pick
-  unformed_refused e q = q ∙ sym (whole ∙ refused_first 1 formed-at (once ranges) (nodes t) 0 (rw (← c.whole) (sym e ∙ q)))
+  unformed_refused e q = q ∙ sym (whole ∙ refused_first 1 formed_at (once ranges) (nodes t) 0 (rw (← c.whole) (sym e ∙ q)))
 
   -- A table that 1 lets pass is left to 2 and 3.
   module _ {f : Table} (e : f ≡ lowest_failing 1 (passes 1 t used) count 0 Formed) (q : f ≡ Formed) where
-    all_formed : lowest_failing 1 formed-at count 0 Formed ≡ Formed
+    all_formed : lowest_failing 1 formed_at count 0 Formed ≡ Formed
     unfolding passes pick
     all_formed = sym e ∙ q
 
     passed_1 : table t ≡ once ranges
-    passed_1 = whole ∙ then_follows 1 formed-at (once ranges) (nodes t) 0 (rw (← c.whole) all_formed)
+    passed_1 = whole ∙ then_follows 1 formed_at (once ranges) (nodes t) 0 (rw (← c.whole) all_formed)
 
     -- Every operand has a place in the list, so its uses can be counted.
     pub operands_within : AllOperandsWithin (length used) t count
@@ -67,7 +67,7 @@ module _ {t used : List ℕ} {count : ℕ} (c : Checkable t used count) where
       inside = omega (arith, c.whole, c.fives);
       few = omega (arith, c.whole, c.few);
       each = λ n h.
-          let formed = each-passes 1 formed-at count 0 Formed all_formed n (omega arith) (omega arith) in
+          let formed = each_passes 1 formed_at count 0 Formed all_formed n (omega arith) (omega arith) in
           record {
             left = λ u. let l = p_is_lower n (node_at t n) formed u in omega (arith, c.long);
             right = λ u. let l = q_is_lower n (node_at t n) formed u in omega (arith, c.long);

@@ -33,8 +33,8 @@ module _ (used : List ℕ) (operand : Bool) (k : ℕ) where
   unfolding use_if
   used_more e h = pick_yes _ (not-false operand e) (pick_no _ (lt-leb _ _ h) refl)
 
-  pub operand-within : not operand ≡ false → (operand ≡ true → k < length used) → k < length used
-  operand-within e h = h (not-false operand e)
+  pub operand_within : not operand ≡ false → (operand ≡ true → k < length used) → k < length used
+  operand_within e h = h (not-false operand e)
 
 -- The list keeps its length.
 pub length-use_if : (used : List ℕ) (operand : Bool) (k : ℕ) → length (use_if used operand k) ≡ length used
@@ -76,25 +76,25 @@ other_node_used used j k other =
     pick_case (λ (l : List ℕ). get_or l k 0 ≡ get_or used k 0) (leb 2 (get_or used j 0)) (λ e. refl) (λ e. get_or-set_other used j k _ 0 other)
 
 -- Each use adds what the specification's count adds.
-use_if-counts : (used : List ℕ) (operand : Bool) (j k u : ℕ) → (operand ≡ true → j < length used) → get_or used k 0 ≡ up_to_2 u
+use_if_counts : (used : List ℕ) (operand : Bool) (j k u : ℕ) → (operand ≡ true → j < length used) → get_or used k 0 ≡ up_to_2 u
     → get_or (use_if used operand j) k 0 ≡ up_to_2 (u + pick operand (pick (eqb j k) 1 0) 0)
 unfolding use_if pick
-use_if-counts used false j k u within is = let e : u + 0 ≡ u = omega arith in rw e is
-use_if-counts used true j k u within is = by (ℕ_discrete j k)
+use_if_counts used false j k u within is = let e : u + 0 ≡ u = omega arith in rw e is
+use_if_counts used true j k u within is = by (ℕ_discrete j k)
   where
     by : Dec (j ≡ k) → get_or (use_if used true j) k 0 ≡ up_to_2 (u + pick (eqb j k) 1 0)
     by (yes same) = let n : u + 1 ≡ suc u = omega arith in rw (← same, eq-eqb j j refl, n) (this_node_used used j u (within refl) (rw same is))
     by (no other) = let n : u + 0 ≡ u = omega arith in rw (ne_eqb j k other, n) (other_node_used used j k (λ e. other (sym e)) ∙ is)
 
 -- Each node adds the uses of its two operands.
-use_operands-counts : (used : List ℕ) (v : Node) (k u : ℕ) → OperandsWithin (length used) v → get_or used k 0 ≡ up_to_2 u
+use_operands_counts : (used : List ℕ) (v : Node) (k u : ℕ) → OperandsWithin (length used) v → get_or used k 0 ≡ up_to_2 u
     → get_or (use_operands used v) k 0 ≡ up_to_2 (u + uses_in k v)
 unfolding use_operands uses_in
-use_operands-counts used v k u within is =
-    let left = use_if-counts used (uses_p v) v.p k u within.left is in
+use_operands_counts used v k u within is =
+    let left = use_if_counts used (uses_p v) v.p k u within.left is in
     let same = length-use_if used (uses_p v) v.p in
     let sum : u + uses_in k v ≡ u + pick (uses_p v) (pick (eqb v.p k) 1 0) 0 + pick (uses_q v) (pick (eqb v.q k) 1 0) 0 = omega arith in
-    rw sum (use_if-counts (use_if used (uses_p v) v.p) (uses_q v) v.q k _ (λ e. rw same (within.right e)) left)
+    rw sum (use_if_counts (use_if used (uses_p v) v.p) (uses_q v) v.q k _ (λ e. rw same (within.right e)) left)
 
 length-use_operands : (used : List ℕ) (v : Node) → length (use_operands used v) ≡ length used
 unfolding use_operands
@@ -106,27 +106,27 @@ length-used_by t zero used = refl
 length-used_by t (suc count) used = length-use_operands (used_by t count used) (node_at t count) ∙ length-used_by t count used
 
 -- The list holds each node's uses, up to 2, where it began with none.
-used_by-counts : (t : List ℕ) (used : List ℕ) (k count : ℕ) → ((n : ℕ) → n < count → OperandsWithin (length used) (node_at t n)) → get_or used k 0 ≡ 0
+used_by_counts : (t : List ℕ) (used : List ℕ) (k count : ℕ) → ((n : ℕ) → n < count → OperandsWithin (length used) (node_at t n)) → get_or used k 0 ≡ 0
     → get_or (used_by t count used) k 0 ≡ up_to_2 (uses t k count)
 unfolding used_by uses
-used_by-counts t used k zero within none = none
-used_by-counts t used k (suc count) within none =
-    use_operands-counts (used_by t count used) (node_at t count) k (uses t k count) (rw (length-used_by t count used) (within count (omega arith)))
-    (used_by-counts t used k count (λ n l. within n (omega arith)) none)
+used_by_counts t used k zero within none = none
+used_by_counts t used k (suc count) within none =
+    use_operands_counts (used_by t count used) (node_at t count) k (uses t k count) (rw (length-used_by t count used) (within count (omega arith)))
+    (used_by_counts t used k count (λ n l. within n (omega arith)) none)
 
 -- 2 can be decided from the list of uses.
 pub once_counted : (t : List ℕ) (used : List ℕ) (k count : ℕ) → AllOperandsWithin (length used) t count → get_or used k 0 ≡ 0
     → eqb (get_or (used_by t count used) k 0) 1 ≡ eqb (uses t k count) 1
-once_counted t used k count within none = rw (used_by-counts t used k count within.each none) (once_up_to_2 (uses t k count))
+once_counted t used k count within none = rw (used_by_counts t used k count within.each none) (once_up_to_2 (uses t k count))
 
 -- The two operands of a node, as the code makes it from its row of the table of kinds.
 module _ (used : List ℕ) (v : Node) {is : Columns} (e : is ≡ columns v.kind) {l : Bool} (p : l ≡ is_operand is.p) where
-  pub left-within : OperandsWithin (length used) v → l ≡ true → v.p < length used
-  left-within within u = within.left (rw (← e) (sym p ∙ u))
+  pub left_within : OperandsWithin (length used) v → l ≡ true → v.p < length used
+  left_within within u = within.left (rw (← e) (sym p ∙ u))
 
   module _ {used' : List ℕ} (u : used' ≡ use_if used l v.p) {r : Bool} (q : r ≡ is_operand is.q) where
-    pub right-within : OperandsWithin (length used) v → r ≡ true → v.q < length used'
-    right-within within h = rw (u, length-use_if used l v.p) (within.right (rw (← e) (sym q ∙ h)))
+    pub right_within : OperandsWithin (length used) v → r ≡ true → v.q < length used'
+    right_within within h = rw (u, length-use_if used l v.p) (within.right (rw (← e) (sym q ∙ h)))
 
     pub used_both : {used'' : List ℕ} → used'' ≡ use_if used' r v.q → used'' ≡ use_operands used v
     unfolding use_operands

@@ -16,23 +16,23 @@ module _ {y : SeqAlt} {row : Row} {r : ℕ} {before after : List ℕ} {pair : Pa
   same_fit : record { alternative = y; delays = pair.delays } ≡ fit row.window y
   same_fit = rw B.delays refl
 
-  pub beside-delays : row.window ≤ longest_window → pair.delays ≤ longest_window
-  beside-delays low = omega (arith, B.delays)
+  pub beside_delays : row.window ≤ longest_window → pair.delays ≤ longest_window
+  beside_delays low = omega (arith, B.delays)
 
-  pub beside-registers : kept_pair_registers after pair ≡ pair_registers (fit row.window y)
-  beside-registers = registers_of_pair pair B.keeps.holds ∙ ap pair_registers same_fit
+  pub beside_registers : kept_pair_registers after pair ≡ pair_registers (fit row.window y)
+  beside_registers = registers_of_pair pair B.keeps.holds ∙ ap pair_registers same_fit
 
-  pub beside-next : pair.one.register + kept_pair_registers after pair ≡ r + pair_registers (fit row.window y)
-  beside-next = omega (arith, B.keeps.holds.register, beside-registers)
+  pub beside_next : pair.one.register + kept_pair_registers after pair ≡ r + pair_registers (fit row.window y)
+  beside_next = omega (arith, B.keeps.holds.register, beside_registers)
 
   pub beside_placed : r + pair_registers (fit row.window y) ≤ 65536 → PlacedPair after pair
   beside_placed small = placed_pair pair B.keeps.holds (rw same_fit small)
 
-  pub beside-stores : kept_pair_stores after pair ≡ pair_stores (fit row.window y) r
-  beside-stores = stores_of_pair pair B.keeps.holds ∙ ap (λ (f : Fitted). pair_stores f r) same_fit
+  pub beside_stores : kept_pair_stores after pair ≡ pair_stores (fit row.window y) r
+  beside_stores = stores_of_pair pair B.keeps.holds ∙ ap (λ (f : Fitted). pair_stores f r) same_fit
 
-  pub beside-text : (words : ℕ) → kept_pair_text after pair words ≡ pair_text words (kept_text after row.two) (fit row.window y) r
-  beside-text words = text_of_pair pair B.keeps.holds words ∙ rw (B.two, same_fit) refl
+  pub beside_text : (words : ℕ) → kept_pair_text after pair words ≡ pair_text words (kept_text after row.two) (fit row.window y) r
+  beside_text words = text_of_pair pair B.keeps.holds words ∙ rw (B.two, same_fit) refl
 
-  pub beside-ended : {x : ℕ} → Ended after row.two x → Ended after pair.two x
-  beside-ended E = rw B.two E
+  pub beside_ended : {x : ℕ} → Ended after row.two x → Ended after pair.two x
+  beside_ended E = rw B.two E

@@ -17,9 +17,9 @@ use Rattle.pair.specs.Pairs.{Fitted, kept_pair_registers, PlacedPair}
 use Rattle.within.specs.declared.Row.{Row}
 use Rattle.within.specs.AllPairs.{fits_from, pairs_registers, row_registers, all_registers}
 use Rattle.within.specs.Rows.{Numberable, Windows, Rowed, Rowing, Beside, pairs_of}
-use Rattle.within.proofs.Rows.{pairs_are, OverRows, rows_begin, row-left, rows_on}
-use Rattle.within.proofs.Windows.{left, Pairing, pairing_begins, all_left, none_left, here_left, next-left, pairing_on}
-use Rattle.within.proofs.KeptPairs.{beside-next, beside_placed}
+use Rattle.within.proofs.Rows.{pairs_are, OverRows, rows_begin, row_left, rows_on}
+use Rattle.within.proofs.Windows.{left, Pairing, pairing_begins, all_left, none_left, here_left, next_left, pairing_on}
+use Rattle.within.proofs.KeptPairs.{beside_next, beside_placed}
 
 -- The pairs of a row, whose registers begin with x.
 pub record PairNumbers (t o windows : List ℕ) (row : Row) (x count : ℕ) (work₀ work : List ℕ) (r j : ℕ) : Type 0 where
@@ -49,7 +49,7 @@ module _ {t o windows : List ℕ} {row : Row} {x count : ℕ} {work₀ work : Li
     pair_numbers_on e f = record {
       pairing = pairing_on N.pairing h f B;
       few = N.few;
-      register = omega (arith, N.register, e, beside-next B, ap pairs_registers (next-left N.pairing h f));
+      register = omega (arith, N.register, e, beside_next B, ap pairs_registers (next_left N.pairing h f));
     }
 
 -- All rows, whose registers begin with x.
@@ -63,32 +63,32 @@ pub all_numbers_begin : {t o windows : List ℕ} {one two x count : ℕ} {work :
 all_numbers_begin N M c = record { rows = rows_begin N.paired M c; few = N.few; register = refl }
 
 module _ {t o windows : List ℕ} {one two x count : ℕ} {work₀ work : List ℕ} {r i : ℕ} (N : AllNumbers t o windows one two x count work₀ work r i) (h : i < count) where
-  register-left : r + row_registers (alternatives_of t one) (chosen t two i) + all_registers (alternatives_of t one) (drop (i + 1) (alternatives_of t two))
+  register_left : r + row_registers (alternatives_of t one) (chosen t two i) + all_registers (alternatives_of t one) (drop (i + 1) (alternatives_of t two))
       ≡ x + all_registers (alternatives_of t one) (alternatives_of t two)
   unfolding all_registers
-  register-left = omega (arith, N.register, ap (all_registers (alternatives_of t one)) (row-left N.rows h))
+  register_left = omega (arith, N.register, ap (all_registers (alternatives_of t one)) (row_left N.rows h))
 
   module _ {work₁ : List ℕ} {row : Row} (R : Rowed t o one (chosen t two i) r work₁ row) where
     row_takes : row_registers (alternatives_of t one) (chosen t two i) ≡ registers_in (chosen t two i) + pairs_registers (pairs_of t row)
     unfolding row_registers
     row_takes = rw (pairs_are R) refl
 
-    pub row-placed : Placed work₁ row.two
-    row-placed = placed R.holds (omega (arith, register-left, N.few, row_takes))
+    pub row_placed : Placed work₁ row.two
+    row_placed = placed R.holds (omega (arith, register_left, N.few, row_takes))
 
     module _ {next : ℕ} (e : next ≡ row.two.register + registers_before work₁ row.two row.two.steps) where
-      pub row-ended : Ended work₁ row.two next
-      row-ended = record { placed = row-placed; behind = e }
+      pub row_ended : Ended work₁ row.two next
+      row_ended = record { placed = row_placed; behind = e }
 
       pub row_pairs_small : next + pairs_registers (pairs_of t row) ≤ 65536
-      row_pairs_small = omega (arith, register-left, N.few, row_takes, next_in R.holds e)
+      row_pairs_small = omega (arith, register_left, N.few, row_takes, next_in R.holds e)
 
       pub all_numbers_on : {r₁ : ℕ} {work₂ : List ℕ} → r₁ ≡ next + pairs_registers (pairs_of t row) → length work₁ ≡ length work → length work₂ ≡ length work₁
           → AllNumbers t o windows one two x count work₀ work₂ r₁ (i + 1)
       all_numbers_on q f g = record {
         rows = rows_on N.rows h work₁ f g;
         few = N.few;
-        register = omega (arith, q, register-left, row_takes, next_in R.holds e);
+        register = omega (arith, q, register_left, row_takes, next_in R.holds e);
       }
 
       pub row_numbers : {r₁ : ℕ} → r₁ ≡ next + pairs_registers (pairs_of t row) → r₁ ≡ r + row_registers (alternatives_of t one) (chosen t two i)

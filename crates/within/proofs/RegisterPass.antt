@@ -12,15 +12,15 @@ use Rattle.current.specs.Text.{registers_before, most_registers}
 use Rattle.expand.specs.ByNumber.{alternatives_of}
 use Rattle.alternative.specs.Keeping.{chosen}
 use Rattle.alternative.proofs.Keeping.{few_to_keep}
-use Rattle.alternative.proofs.Laws.{kept-registers}
+use Rattle.alternative.proofs.Laws.{kept_registers}
 use Rattle.pair.specs.declared.Pair.{Pair}
 use Rattle.pair.specs.Pairs.{kept_pair_registers, most_pair_registers}
 use Rattle.within.specs.declared.Row.{Row}
 use Rattle.within.specs.AllPairs.{fits_from, pairs_registers, row_registers, all_registers}
 use Rattle.within.specs.Rows.{Paired, Windows, Rowed, Rowing, Beside, pairs_of}
-use Rattle.within.proofs.Rows.{one-keepable, pairs_are, OverRows, rows_begin, no_row_left, row-left, rows_on, few_pairs_and_rows}
-use Rattle.within.proofs.Windows.{left, Pairing, pairing_begins, all_left, none_left, next-left, pairing_on, later}
-use Rattle.within.proofs.KeptPairs.{beside-registers}
+use Rattle.within.proofs.Rows.{one_keepable, pairs_are, OverRows, rows_begin, no_row_left, row_left, rows_on, few_pairs_and_rows}
+use Rattle.within.proofs.Windows.{left, Pairing, pairing_begins, all_left, none_left, next_left, pairing_on, later}
+use Rattle.within.proofs.KeptPairs.{beside_registers}
 
 -- The pairs of a row.
 pub record PairRegisters (t o windows : List ℕ) (row : Row) (count : ℕ) (work₀ work : List ℕ) (total j : ℕ) : Type 0 where
@@ -33,8 +33,8 @@ pub pair_registers_begin : {t o windows : List ℕ} {row : Row} {work : List ℕ
 pair_registers_begin R c e = record { pairing = pairing_begins R c e; low = omega arith; rest = ap pairs_registers (all_left R c e) ∙ omega arith }
 
 module _ {t o windows : List ℕ} {row : Row} {count : ℕ} {work₀ work : List ℕ} {total j : ℕ} (S : PairRegisters t o windows row count work₀ work total j) where
-  pub pair_registers-fit : {n : ℕ} → j < count → n ≤ most_pair_registers → Fits w64 (total + n)
-  pair_registers-fit h small = omega (arith, S.low, S.pairing.counted, few_to_keep S.pairing.rowing.room)
+  pub pair_registers_fit : {n : ℕ} → j < count → n ≤ most_pair_registers → Fits w64 (total + n)
+  pair_registers_fit h small = omega (arith, S.low, S.pairing.counted, few_to_keep S.pairing.rowing.room)
 
   pub pair_registers_on : {work₁ : List ℕ} {r n j₁ : ℕ} {pair : Pair} → j < count → Beside (chosen t row.one j) row r work work₁ pair
       → n ≡ kept_pair_registers work₁ pair → n ≤ most_pair_registers → j₁ ≡ fits_from windows row.window (j + 1) (count - (j + 1))
@@ -43,7 +43,7 @@ module _ {t o windows : List ℕ} {row : Row} {count : ℕ} {work₀ work : List
   pair_registers_on h B q small e = record {
     pairing = pairing_on S.pairing h e B;
     low = omega (arith, S.low, later S.pairing h e);
-    rest = S.rest ∙ rw (next-left S.pairing h e) (omega (arith, q, beside-registers B));
+    rest = S.rest ∙ rw (next_left S.pairing h e) (omega (arith, q, beside_registers B));
   }
 
   module _ (h : count ≤ j) where
@@ -74,11 +74,11 @@ module _ {t o windows : List ℕ} {one two count : ℕ} {work₀ work : List ℕ
     row_low : own + pairs ≤ (length (alternatives_of t one) + 1) * most_pair_registers
     row_low = omega (arith, few, rw R.node at low)
 
-    pub row_registers-fit : Fits w64 (own + pairs)
-    row_registers-fit = omega (arith, row_low, few_to_keep (one-keepable S.rows.paired))
+    pub row_registers_fit : Fits w64 (own + pairs)
+    row_registers_fit = omega (arith, row_low, few_to_keep (one_keepable S.rows.paired))
 
-    pub all_registers-fit : Fits w64 (total + (own + pairs))
-    all_registers-fit = omega (arith, S.low, row_low, few_pairs_and_rows S.rows (i + 1) (omega arith))
+    pub all_registers_fit : Fits w64 (total + (own + pairs))
+    all_registers_fit = omega (arith, S.low, row_low, few_pairs_and_rows S.rows (i + 1) (omega arith))
 
     pub all_registers_on : {work₂ : List ℕ} → own ≡ registers_before work₁ row.two row.two.steps → pairs ≡ pairs_registers (pairs_of t row)
         → length work₁ ≡ length work → length work₂ ≡ length work₁ → AllRegisters t o windows one two count work₀ work₂ (total + (own + pairs)) (i + 1)
@@ -88,6 +88,6 @@ module _ {t o windows : List ℕ} {one two count : ℕ} {work₀ work : List ℕ
       low = omega (arith, S.low, row_low);
       rest =
           S.rest
-          ∙ ap (λ (ys : List SeqAlt). total + all_registers (alternatives_of t one) ys) (row-left S.rows h)
-          ∙ omega (arith, p, kept-registers R.holds, q, ap pairs_registers (pairs_are R));
+          ∙ ap (λ (ys : List SeqAlt). total + all_registers (alternatives_of t one) ys) (row_left S.rows h)
+          ∙ omega (arith, p, kept_registers R.holds, q, ap pairs_registers (pairs_are R));
     }

@@ -17,7 +17,7 @@ use Rattle.expand.proofs.Index.{rest_of}
 use Rattle.expand.proofs.Room.{size_within_entries}
 use Rattle.alternative.specs.Keeping.{kept_text, chosen, Keepable, Holds, Keeps, Ended}
 use Rattle.alternative.proofs.Keeping.{room_in_work, few_to_keep, all_counted, keepable_again, still_holds}
-use Rattle.alternative.proofs.Laws.{kept-registers, kept_texts, kept-window, kept_is_countable}
+use Rattle.alternative.proofs.Laws.{kept_registers, kept_texts, kept_window, kept_is_countable}
 use Rattle.pair.specs.Pairs.{longest_window}
 use Rattle.within.specs.declared.Row.{Row}
 use Rattle.within.specs.AllPairs.{beside}
@@ -31,17 +31,17 @@ module _ {t o : List ℕ} {one two work : ℕ} (P : Paired t o one two work) whe
   both_few : entries (alternatives_of t one) + entries (alternatives_of t two) ≤ 65536
   both_few = omega (arith, P.pairs.fits, room_is_small work)
 
-  one-node : Expandable t one
-  one-node = record { formed = P.formed; inside = P.one_inside; room = room_of work; walkable = P.one_walkable }
+  one_node : Expandable t one
+  one_node = record { formed = P.formed; inside = P.one_inside; room = room_of work; walkable = P.one_walkable }
 
-  two-node : Expandable t two
-  two-node = record { formed = P.formed; inside = P.two_inside; room = room_of work; walkable = P.two_walkable }
+  two_node : Expandable t two
+  two_node = record { formed = P.formed; inside = P.two_inside; room = room_of work; walkable = P.two_walkable }
 
-  pub one-keepable : Keepable t o one 0 work
-  one-keepable = record { node = one-node; known = P.one_known; room = omega (arith, both_fit); few = omega (arith, both_few) }
+  pub one_keepable : Keepable t o one 0 work
+  one_keepable = record { node = one_node; known = P.one_known; room = omega (arith, both_fit); few = omega (arith, both_few) }
 
-  pub two-keepable : Keepable t o two 0 work
-  two-keepable = record { node = two-node; known = P.two_known; room = omega (arith, both_fit); few = omega (arith, both_few) }
+  pub two_keepable : Keepable t o two 0 work
+  two_keepable = record { node = two_node; known = P.two_known; room = omega (arith, both_fit); few = omega (arith, both_few) }
 
 -- Work is as long as it was.
 pub still_paired : {t o : List ℕ} {one two work work₁ : ℕ} → Paired t o one two work → work₁ ≡ work → Paired t o one two work₁
@@ -57,11 +57,11 @@ pub row_made : {t o : List ℕ} {one two i r l : ℕ} {work work₁ : List ℕ} 
 row_made {t} {two = two} {i} P h K e low = record {
   node = refl;
   holds = K.holds;
-  window = e ∙ kept-window K.holds;
+  window = e ∙ kept_window K.holds;
   low = low;
-  countable = kept_is_countable (two-keepable P) h K;
+  countable = kept_is_countable (two_keepable P) h K;
   room = record {
-    node = one-node P;
+    node = one_node P;
     known = P.one_known;
     room = omega (arith, both_fit P, K.short, K.long, size_within_entries (alternatives_of t two) i h);
     few = omega (arith, both_few P);
@@ -69,8 +69,8 @@ row_made {t} {two = two} {i} P h K e low = record {
 }
 
 -- What a pass over its pairs asks for.
-pub rows-pairs : {t o windows : List ℕ} {n r : ℕ} {y : SeqAlt} {work : List ℕ} {row : Row} → Rowed t o n y r work row → Windows t windows n → Rowing t o windows row work
-rows-pairs {r = r} {y} R M = record {
+pub rows_pairs : {t o windows : List ℕ} {n r : ℕ} {y : SeqAlt} {work : List ℕ} {row : Row} → Rowed t o n y r work row → Windows t windows n → Rowing t o windows row work
+rows_pairs {r = r} {y} R M = record {
   alternative = y;
   register = r;
   holds = R.holds;
@@ -95,8 +95,8 @@ module _ {t o windows : List ℕ} {row : Row} {work : List ℕ} (work₁ : List 
 
   pub still_ended : {r : ℕ} → Ended work row.two r → Ended work₁ row.two r
   still_ended E = record {
-    placed = record { whole = still_held.whole; registers = omega (arith, E.placed.registers, kept-registers still_held, kept-registers R.holds) };
-    behind = omega (arith, E.behind, kept-registers still_held, kept-registers R.holds);
+    placed = record { whole = still_held.whole; registers = omega (arith, E.placed.registers, kept_registers still_held, kept_registers R.holds) };
+    behind = omega (arith, E.behind, kept_registers still_held, kept_registers R.holds);
   }
 
   pub still_rowing : length work₁ ≡ length work → Rowing t o windows row work₁
@@ -123,15 +123,15 @@ pub record OverRows (t o windows : List ℕ) (one two count : ℕ) (work₀ work
 
 pub rows_begin : {t o windows : List ℕ} {one two count : ℕ} {work : List ℕ} → Paired t o one two (length work) → Windows t windows one → count ≡ count_in o two
     → OverRows t o windows one two count work work 0
-rows_begin P M c = record { paired = P; measured = M; counted = all_counted (two-keepable P) c; turn = omega arith; long = refl }
+rows_begin P M c = record { paired = P; measured = M; counted = all_counted (two_keepable P) c; turn = omega arith; long = refl }
 
 module _ {t o windows : List ℕ} {one two count : ℕ} {work₀ work : List ℕ} {i : ℕ} (S : OverRows t o windows one two count work₀ work i) where
   pub no_row_left : count ≤ i → drop i (alternatives_of t two) ≡ []
   no_row_left h = drop_of_length-le (alternatives_of t two) {i = i} (omega (arith, S.counted))
 
   module _ (h : i < count) where
-    pub row-left : drop i (alternatives_of t two) ≡ chosen t two i ∷ drop (i + 1) (alternatives_of t two)
-    row-left = rest_of (alternatives_of t two) i (omega (arith, S.counted))
+    pub row_left : drop i (alternatives_of t two) ≡ chosen t two i ∷ drop (i + 1) (alternatives_of t two)
+    row_left = rest_of (alternatives_of t two) i (omega (arith, S.counted))
 
     pub rows_on : (work₁ : List ℕ) {work₂ : List ℕ} → length work₁ ≡ length work → length work₂ ≡ length work₁ → OverRows t o windows one two count work₀ work₂ (i + 1)
     rows_on work₁ e f = record {
@@ -147,4 +147,4 @@ module _ {t o windows : List ℕ} {one two count : ℕ} {work₀ work : List ℕ
   few_pairs_and_rows k h =
       let pairs : k * length (alternatives_of t one) ≤ length (alternatives_of t two) * length (alternatives_of t one) =
       mul-le-mul (omega (arith, S.counted)) (le_refl _) in
-      omega (arith, pairs, S.paired.pairs.few, S.counted, few_to_keep (two-keepable S.paired))
+      omega (arith, pairs, S.paired.pairs.few, S.counted, few_to_keep (two_keepable S.paired))

@@ -11,7 +11,7 @@ use Rattle.sizes.specs.Sizes.{Countable, most_store_words, most_words}
 use Rattle.expand.specs.ByNumber.{alternatives_of}
 use Rattle.alternative.specs.Keeping.{chosen, kept_size}
 use Rattle.alternative.proofs.Keeping.{few_to_keep, keepable_again}
-use Rattle.alternative.proofs.Laws.{kept_is_countable, few-stores, short-text}
+use Rattle.alternative.proofs.Laws.{kept_is_countable, few_stores, short_text}
 use Rattle.pair.specs.declared.Pair.{Pair}
 use Rattle.pair.specs.Pairs.{Fitted, pair_registers}
 use Rattle.pair.specs.Sizes.{size, pair_size_of, longest_text, longest_pair_text}
@@ -20,18 +20,18 @@ use Rattle.within.specs.declared.Row.{Row}
 use Rattle.within.specs.AllPairs.{fit, fits_from, pairs_registers, row_registers, all_registers, within_words}
 use Rattle.within.specs.AllSizes.{plus, pairs_size, row_size, all_size, match_size, words_in, AtMost}
 use Rattle.within.specs.Rows.{Numberable, Windows, Rowed, Rowing, Beside, pairs_of}
-use Rattle.within.proofs.Rows.{one-keepable, pairs_are, OverRows, rows_begin, no_row_left, row-left, rows_on, few_pairs_and_rows}
+use Rattle.within.proofs.Rows.{one_keepable, pairs_are, OverRows, rows_begin, no_row_left, row_left, rows_on, few_pairs_and_rows}
 use Rattle.within.proofs.Lengths.{the_words_of_a_within}
-use Rattle.within.proofs.Windows.{left, Pairing, pairing_begins, all_left, none_left, here_left, next-left, later, pairing_on}
+use Rattle.within.proofs.Windows.{left, Pairing, pairing_begins, all_left, none_left, here_left, next_left, later, pairing_on}
 
 -- Sizes together.
 plus_none : (z : Size) → plus (size 0 0) z ≡ z
 unfolding plus
 plus_none z = ap₂ size (omega arith) (omega arith)
 
-none-plus : (z : Size) → plus z (size 0 0) ≡ z
+none_plus : (z : Size) → plus z (size 0 0) ≡ z
 unfolding plus
-none-plus z = ap₂ size (omega arith) (omega arith)
+none_plus z = ap₂ size (omega arith) (omega arith)
 
 plus_assoc : (a b c : Size) → plus a (plus b c) ≡ plus (plus a b) c
 unfolding plus
@@ -45,11 +45,11 @@ plus_at_most A B = record { text = omega (arith, A.text, B.text); stores = omega
 at_most_more : {k n : ℕ} {z : Size} → AtMost k z → k ≤ n → AtMost n z
 at_most_more A h = record { text = omega (arith, A.text); stores = omega (arith, A.stores) }
 
-pub text-fits : {k n : ℕ} {a b : Size} → AtMost k a → AtMost n b → k + n ≤ 768 → a.text + b.text ≤ 18446744073709551615
-text-fits A B few = omega (arith, A.text, B.text)
+pub text_fits : {k n : ℕ} {a b : Size} → AtMost k a → AtMost n b → k + n ≤ 768 → a.text + b.text ≤ 18446744073709551615
+text_fits A B few = omega (arith, A.text, B.text)
 
-pub stores-fit : {k n : ℕ} {a b : Size} → AtMost k a → AtMost n b → k + n ≤ 768 → a.stores + b.stores ≤ 18446744073709551615
-stores-fit A B few = omega (arith, A.stores, B.stores)
+pub stores_fit : {k n : ℕ} {a b : Size} → AtMost k a → AtMost n b → k + n ≤ 768 → a.stores + b.stores ≤ 18446744073709551615
+stores_fit A B few = omega (arith, A.stores, B.stores)
 
 -- The pairs of a row, beside a text of seq2 of so many words.
 pub record PairSizes (t o windows : List ℕ) (row : Row) (text count : ℕ) (work₀ work : List ℕ) (total : Size) (j : ℕ) : Type 0 where
@@ -75,7 +75,7 @@ module _ {t o windows : List ℕ} {row : Row} {text count : ℕ} {work₀ work :
   module _ (h : count ≤ j) where
     pub pair_sizes_end : total ≡ pairs_size text (pairs_of t row)
     unfolding pairs_size
-    pair_sizes_end = sym (S.rest ∙ ap (λ (fs : List Fitted). plus total (pairs_size text fs)) (none_left S.pairing h) ∙ none-plus total)
+    pair_sizes_end = sym (S.rest ∙ ap (λ (fs : List Fitted). plus total (pairs_size text fs)) (none_left S.pairing h) ∙ none_plus total)
 
     pub pair_sizes_low : AtMost (length (alternatives_of t row.one)) total
     pair_sizes_low = at_most_more S.low (omega (arith, S.pairing.turn, S.pairing.counted))
@@ -98,29 +98,29 @@ module _ {t o windows : List ℕ} {row : Row} {text count : ℕ} {work₀ work :
     pair_delays_few = omega (arith, few_here, B.delays)
 
     module _ {own : Size} (e : own ≡ kept_size work₁ pair.one) where
-      pub pair_text-short : own.text ≤ longest_text
+      pub pair_text_short : own.text ≤ longest_text
       unfolding kept_size
-      pair_text-short = rw e (short-text pair_countable)
+      pair_text_short = rw e (short_text pair_countable)
 
-      pub pair_stores-few : own.stores ≤ most_store_words
+      pub pair_stores_few : own.stores ≤ most_store_words
       unfolding kept_size
-      pair_stores-few = rw e (few-stores pair_countable)
+      pair_stores_few = rw e (few_stores pair_countable)
 
     module _ {z : Size} (short : z.text ≤ longest_pair_text) (low : z.stores ≤ most_words) where
       one_pair : AtMost 1 z
       one_pair = record { text = omega arith; stores = omega arith }
 
       pub pair_sizes_text_fit : total.text + z.text ≤ 18446744073709551615
-      pair_sizes_text_fit = text-fits S.low one_pair (omega (arith, S.pairing.counted, few_to_keep S.pairing.rowing.room))
+      pair_sizes_text_fit = text_fits S.low one_pair (omega (arith, S.pairing.counted, few_to_keep S.pairing.rowing.room))
 
       pub pair_sizes_stores_fit : total.stores + z.stores ≤ 18446744073709551615
-      pair_sizes_stores_fit = stores-fit S.low one_pair (omega (arith, S.pairing.counted, few_to_keep S.pairing.rowing.room))
+      pair_sizes_stores_fit = stores_fit S.low one_pair (omega (arith, S.pairing.counted, few_to_keep S.pairing.rowing.room))
 
       pub pair_sizes_on : {own sum : Size} {j₁ : ℕ} → own ≡ kept_size work₁ pair.one → z ≡ pair_size_of own text pair.delays → sum ≡ plus total z
           → j₁ ≡ fits_from windows row.window (j + 1) (count - (j + 1)) → PairSizes t o windows row text count work₀ work₁ sum j₁
       unfolding pairs_size pairs_registers
       pair_sizes_on {j₁ = j₁} e q s f =
-          let rest = next-left S.pairing h f in
+          let rest = next_left S.pairing h f in
           record {
             pairing = pairing_on S.pairing h f B;
             short = S.short;
@@ -153,7 +153,7 @@ module _ {t o windows : List ℕ} {one two count : ℕ} {work₀ work : List ℕ
   module _ (h : count ≤ i) where
     pub row_sizes_end : total ≡ all_size (alternatives_of t one) (alternatives_of t two)
     unfolding all_size
-    row_sizes_end = sym (S.rest ∙ ap (λ (ys : List SeqAlt). plus total (all_size (alternatives_of t one) ys)) (no_row_left S.rows h) ∙ none-plus total)
+    row_sizes_end = sym (S.rest ∙ ap (λ (ys : List SeqAlt). plus total (all_size (alternatives_of t one) ys)) (no_row_left S.rows h) ∙ none_plus total)
 
     pub row_sizes_low : AtMost 512 total
     row_sizes_low = at_most_more S.low (few_pairs_and_rows S.rows i S.rows.turn)
@@ -161,11 +161,11 @@ module _ {t o windows : List ℕ} {one two count : ℕ} {work₀ work : List ℕ
   module _ (h : i < count) {work₁ : List ℕ} {row : Row} (R : Rowed t o one (chosen t two i) 0 work₁ row) where
     few_in_row : row_registers (alternatives_of t one) (chosen t two i) + all_registers (alternatives_of t one) (drop (i + 1) (alternatives_of t two)) ≤ 65536
     unfolding all_registers
-    few_in_row = rw (row-left S.rows h) at S.few
+    few_in_row = rw (row_left S.rows h) at S.few
 
-    pub row-countable : Countable work₁ row.two
+    pub row_countable : Countable work₁ row.two
     unfolding row_registers
-    row-countable = R.countable (omega (arith, few_in_row))
+    row_countable = R.countable (omega (arith, few_in_row))
 
     pub row_pairs_few : pairs_registers (pairs_of t row) ≤ 65536
     unfolding row_registers
@@ -174,37 +174,37 @@ module _ {t o windows : List ℕ} {one two count : ℕ} {work₀ work : List ℕ
     module _ {own : Size} (e : own ≡ kept_size work₁ row.two) where
       pub row_text_short : own.text ≤ longest_text
       unfolding kept_size
-      row_text_short = rw e (short-text row-countable)
+      row_text_short = rw e (short_text row_countable)
 
       own_stores : AtMost 1 (size 0 own.stores)
       unfolding kept_size
-      own_stores = record { text = omega arith; stores = rw e (omega (arith, few-stores row-countable)) }
+      own_stores = record { text = omega arith; stores = rw e (omega (arith, few_stores row_countable)) }
 
       module _ {pairs : Size} (low : AtMost (length (alternatives_of t row.one)) pairs) where
-        pairs-low : AtMost (length (alternatives_of t one)) pairs
-        pairs-low = rw R.node at low
+        pairs_low : AtMost (length (alternatives_of t one)) pairs
+        pairs_low = rw R.node at low
 
-        few-beside : 1 + length (alternatives_of t one) ≤ 768
-        few-beside = omega (arith, few_to_keep (one-keepable S.rows.paired))
+        few_beside : 1 + length (alternatives_of t one) ≤ 768
+        few_beside = omega (arith, few_to_keep (one_keepable S.rows.paired))
 
         pub row_text_fits : 0 + pairs.text ≤ 18446744073709551615
-        row_text_fits = text-fits own_stores pairs-low few-beside
+        row_text_fits = text_fits own_stores pairs_low few_beside
 
-        pub row_stores-fit : own.stores + pairs.stores ≤ 18446744073709551615
-        row_stores-fit = stores-fit own_stores pairs-low few-beside
+        pub row_stores_fit : own.stores + pairs.stores ≤ 18446744073709551615
+        row_stores_fit = stores_fit own_stores pairs_low few_beside
 
         module _ {z : Size} (s : z ≡ plus (size 0 own.stores) pairs) where
           row_low : AtMost (1 + length (alternatives_of t one)) z
-          row_low = rw s (plus_at_most own_stores pairs-low)
+          row_low = rw s (plus_at_most own_stores pairs_low)
 
           few_so_far : i * length (alternatives_of t one) + i + (1 + length (alternatives_of t one)) ≤ 768
           few_so_far = omega (arith, few_pairs_and_rows S.rows (i + 1) (omega arith))
 
           pub all_text_fits : total.text + z.text ≤ 18446744073709551615
-          all_text_fits = text-fits S.low row_low few_so_far
+          all_text_fits = text_fits S.low row_low few_so_far
 
-          pub all_stores-fit : total.stores + z.stores ≤ 18446744073709551615
-          all_stores-fit = stores-fit S.low row_low few_so_far
+          pub all_stores_fit : total.stores + z.stores ≤ 18446744073709551615
+          all_stores_fit = stores_fit S.low row_low few_so_far
 
           pub row_sizes_on : {work₂ : List ℕ} {sum : Size} → pairs ≡ pairs_size own.text (pairs_of t row) → sum ≡ plus total z → length work₁ ≡ length work
               → length work₂ ≡ length work₁ → RowSizes t o windows one two count work₀ work₂ sum (i + 1)
@@ -215,14 +215,14 @@ module _ {t o windows : List ℕ} {one two count : ℕ} {work₀ work : List ℕ
             low = rw m (at_most_more (plus_at_most S.low row_low) (omega arith));
             rest =
                 S.rest
-                ∙ ap (λ (ys : List SeqAlt). plus total (all_size (alternatives_of t one) ys)) (row-left S.rows h)
+                ∙ ap (λ (ys : List SeqAlt). plus total (all_size (alternatives_of t one) ys)) (row_left S.rows h)
                 ∙ plus_assoc total _ (all_size (alternatives_of t one) (drop (i + 1) (alternatives_of t two)))
                 ∙ rw (m, s, q, pairs_are R, e, size_of_kept R.holds) refl;
           }
 
 -- All words: the assignments, the match, and the match's own word.
-pub words-counted : {t o : List ℕ} {one two work : ℕ} {z : Size} {match : ℕ} → Numberable t o one two 0 work → z ≡ all_size (alternatives_of t one) (alternatives_of t two)
+pub words_counted : {t o : List ℕ} {one two work : ℕ} {z : Size} {match : ℕ} → Numberable t o one two 0 work → z ≡ all_size (alternatives_of t one) (alternatives_of t two)
     → match ≡ match_size z.text → z.stores + (match + 1) ≡ length (within_words (alternatives_of t one) (alternatives_of t two) 0)
 unfolding words_in
-words-counted {t} {one = one} {two} N e q =
+words_counted {t} {one = one} {two} N e q =
     rw (q, e) (sym (the_words_of_a_within (alternatives_of t one) (alternatives_of t two) N.paired.pairs.one N.paired.pairs.two 0))

@@ -12,16 +12,16 @@ use Rattle.current.specs.Text.{registers_before}
 use Rattle.pipeline.specs.Stores.{alternative_store_words}
 use Rattle.expand.specs.ByNumber.{alternatives_of}
 use Rattle.alternative.specs.Keeping.{chosen}
-use Rattle.alternative.proofs.Laws.{kept-stores, next_in}
+use Rattle.alternative.proofs.Laws.{kept_stores, next_in}
 use Rattle.pair.specs.declared.Pair.{Pair}
 use Rattle.pair.specs.declared.Mark.{Mark}
 use Rattle.pair.specs.Pairs.{Fitted, pair_registers, pair_stores, kept_pair_registers, kept_pair_stores, Marked}
 use Rattle.within.specs.declared.Row.{Row}
 use Rattle.within.specs.AllPairs.{fit, fits_from, pairs_registers, pairs_stores, row_registers, row_stores, all_stores}
 use Rattle.within.specs.Rows.{Numberable, Windows, Rowed, Rowing, Beside, pairs_of, Onward}
-use Rattle.within.proofs.Rows.{pairs_are, no_row_left, row-left}
-use Rattle.within.proofs.Windows.{left, all_left, none_left, here_left, next-left}
-use Rattle.within.proofs.KeptPairs.{beside-stores, beside-next}
+use Rattle.within.proofs.Rows.{pairs_are, no_row_left, row_left}
+use Rattle.within.proofs.Windows.{left, all_left, none_left, here_left, next_left}
+use Rattle.within.proofs.KeptPairs.{beside_stores, beside_next}
 use Rattle.within.proofs.Numbering.{PairNumbers, pair_numbers_begin, pair_numbers_on, pair_numbers_end, AllNumbers, all_numbers_begin, all_numbers_on, row_numbers}
 
 -- The pairs of a row.
@@ -50,9 +50,9 @@ module _ {t outline windows : List ℕ} {row : Row} {from : Mark} {count : ℕ} 
     abbrev here : Fitted
     here = fit row.window (chosen t row.one j)
 
-    pub pair_stores-room : m.place + length (kept_pair_stores work₁ pair) ≤ length o'
+    pub pair_stores_room : m.place + length (kept_pair_stores work₁ pair) ≤ length o'
     unfolding pairs_stores
-    pair_stores-room =
+    pair_stores_room =
         omega (
           arith,
           S.room,
@@ -60,7 +60,7 @@ module _ {t outline windows : List ℕ} {row : Row} {from : Mark} {count : ℕ} 
           S.going.long,
           ap (λ (fs : List Fitted). length (pairs_stores fs m.register)) (here_left S.numbers.pairing h),
           length-append (pair_stores here m.register) (pairs_stores (left t row (j + 1)) (m.register + pair_registers here)),
-          ap length (beside-stores B),
+          ap length (beside_stores B),
         )
 
     pub pair_stores_on : {j₁ : ℕ} {m₁ : Mark} {o₁ : List ℕ} → Marked o' o₁ m.place m₁ (kept_pair_stores work₁ pair) (pair.one.register + kept_pair_registers work₁ pair)
@@ -68,11 +68,11 @@ module _ {t outline windows : List ℕ} {row : Row} {from : Mark} {count : ℕ} 
     unfolding pairs_stores
     pair_stores_on {j₁} M e =
         let words : pairs_stores (left t row j) m.register ≡ pair_stores here m.register ++ pairs_stores (left t row j₁) (m.register + pair_registers here) =
-        ap (λ (fs : List Fitted). pairs_stores fs m.register) (next-left S.numbers.pairing h e) in
+        ap (λ (fs : List Fitted). pairs_stores fs m.register) (next_left S.numbers.pairing h e) in
         record {
           numbers = pair_numbers_on S.numbers h B M.next e;
           room = S.room;
-          going = rw (M.next, beside-next B) (go (pair_stores here m.register) _ (rw words at S.going) (same_words (beside-stores B) M.wrote));
+          going = rw (M.next, beside_next B) (go (pair_stores here m.register) _ (rw words at S.going) (same_words (beside_stores B) M.wrote));
         }
 
 -- All rows: each alternative of seq2's own assignments, then those of its pairs.
@@ -98,18 +98,18 @@ module _ {t outline windows : List ℕ} {one two : ℕ} {from : Mark} {count : �
     abbrev later_rows : List ℕ
     later_rows = all_stores (alternatives_of t one) (drop (i + 1) (alternatives_of t two)) (m.register + row_registers (alternatives_of t one) (chosen t two i))
 
-    stores-left : all_stores (alternatives_of t one) (drop i (alternatives_of t two)) m.register
+    stores_left : all_stores (alternatives_of t one) (drop i (alternatives_of t two)) m.register
         ≡ row_stores (alternatives_of t one) (chosen t two i) m.register ++ later_rows
     unfolding all_stores
-    stores-left = ap (λ (ys : List SeqAlt). all_stores (alternatives_of t one) ys m.register) (row-left S.numbers.rows h)
+    stores_left = ap (λ (ys : List SeqAlt). all_stores (alternatives_of t one) ys m.register) (row_left S.numbers.rows h)
 
     row_room : m.place + length (row_stores (alternatives_of t one) (chosen t two i) m.register) ≤ length o'
-    row_room = first_room m.place (row_stores (alternatives_of t one) (chosen t two i) m.register) later_rows stores-left (omega (arith, S.room, S.going.place, S.going.long))
+    row_room = first_room m.place (row_stores (alternatives_of t one) (chosen t two i) m.register) later_rows stores_left (omega (arith, S.room, S.going.place, S.going.long))
 
     module _ {next : ℕ} (e : next ≡ row.two.register + registers_before work₁ row.two row.two.steps) where
       row_is : row_stores (alternatives_of t one) (chosen t two i) m.register ≡ alternative_store_words work₁ row.two ++ pairs_stores (pairs_of t row) next
       unfolding row_stores
-      row_is = sym (rw (kept-stores R.holds, pairs_are R, next_in R.holds e) refl)
+      row_is = sym (rw (kept_stores R.holds, pairs_are R, next_in R.holds e) refl)
 
       module _ {p : ℕ} {o₁ : List ℕ} (w : Wrote o' o₁ m.place p (alternative_store_words work₁ row.two)) where
         pub row_pairs_room : p + length (pairs_stores (pairs_of t row) next) ≤ length o₁
@@ -121,7 +121,7 @@ module _ {t outline windows : List ℕ} {one two : ℕ} {from : Mark} {count : �
         all_stores_on M f g = record {
           numbers = all_numbers_on S.numbers h R e M.next f g;
           room = S.room;
-          going = rw (row_numbers S.numbers h R e M.next) (go (row_stores (alternatives_of t one) (chosen t two i) m.register) later_rows (rw stores-left at S.going) (both_done row_is w M.wrote));
+          going = rw (row_numbers S.numbers h R e M.next) (go (row_stores (alternatives_of t one) (chosen t two i) m.register) later_rows (rw stores_left at S.going) (both_done row_is w M.wrote));
         }
 
     pub row_own_room : m.place + length (alternative_store_words work₁ row.two) ≤ length o'

@@ -23,9 +23,9 @@ use Rattle.pair.specs.Pairs.{Fitted, pair_registers, pair_text, kept_pair_regist
 use Rattle.within.specs.declared.Row.{Row}
 use Rattle.within.specs.AllPairs.{fit, fits_from, pairs_registers, pairs_texts, row_registers, row_texts, all_texts, or_zero}
 use Rattle.within.specs.Rows.{Numberable, Windows, Rowed, Rowing, Beside, pairs_of, texts_of, Onward}
-use Rattle.within.proofs.Rows.{same_text, still_ended, pairs_are, no_row_left, row-left}
-use Rattle.within.proofs.Windows.{left, all_left, none_left, here_left, next-left}
-use Rattle.within.proofs.KeptPairs.{beside-text, beside-next, beside-ended}
+use Rattle.within.proofs.Rows.{same_text, still_ended, pairs_are, no_row_left, row_left}
+use Rattle.within.proofs.Windows.{left, all_left, none_left, here_left, next_left}
+use Rattle.within.proofs.KeptPairs.{beside_text, beside_next, beside_ended}
 use Rattle.within.proofs.Numbering.{PairNumbers, pair_numbers_begin, pair_numbers_on, pair_numbers_end, AllNumbers, all_numbers_begin, all_numbers_on, row_numbers}
 use Rattle.within.proofs.PairByPair.{words_stay}
 
@@ -65,10 +65,10 @@ module _ {t outline windows : List ℕ} {row : Row} {start : ℕ} {from : Mark} 
 
     -- The row's alternative stands in front as it did.
     pub pair_texts_behind : Ended work₁ pair.two from.register
-    pair_texts_behind = beside-ended B (still_ended work₁ S.numbers.pairing.rowing (B.keeps.front ∙ S.numbers.pairing.front) S.behind)
+    pair_texts_behind = beside_ended B (still_ended work₁ S.numbers.pairing.rowing (B.keeps.front ∙ S.numbers.pairing.front) S.behind)
 
     text_here : kept_pair_text work₁ pair (m.place - start) ≡ here
-    text_here = beside-text B (m.place - start) ∙ rw (same_text work₁ S.numbers.pairing.rowing (B.keeps.front ∙ S.numbers.pairing.front)) refl
+    text_here = beside_text B (m.place - start) ∙ rw (same_text work₁ S.numbers.pairing.rowing (B.keeps.front ∙ S.numbers.pairing.front)) refl
 
     abbrev rest_behind : List Fitted → List ℕ
     rest_behind fs =
@@ -93,14 +93,14 @@ module _ {t outline windows : List ℕ} {row : Row} {start : ℕ} {from : Mark} 
     unfolding pairs_texts
     pair_texts_on {j₁} {m₁} M e =
         let words : pairs_texts (m.place - start) (kept_text work₀ row.two) (left t row j) m.register ≡ here ++ rest_behind (left t row j₁) =
-        ap (λ (fs : List Fitted). pairs_texts (m.place - start) (kept_text work₀ row.two) fs m.register) (next-left S.numbers.pairing h e) in
+        ap (λ (fs : List Fitted). pairs_texts (m.place - start) (kept_text work₀ row.two) fs m.register) (next_left S.numbers.pairing h e) in
         let before : m₁.place - start ≡ m.place - start + length here = omega (arith, M.wrote.ends, S.begun, ap length text_here) in
         record {
           numbers = pair_numbers_on S.numbers h B M.next e;
           behind = S.behind;
           begun = omega (arith, M.wrote.ends, S.begun);
           room = S.room;
-          going = rw (before, M.next, beside-next B) (go here _ (rw words at S.going) (same_words text_here M.wrote));
+          going = rw (before, M.next, beside_next B) (go here _ (rw words at S.going) (same_words text_here M.wrote));
         }
 
 -- All rows: the texts of the pairs of each, from `start` on, where the match begins.
@@ -140,14 +140,14 @@ module _ {t outline windows : List ℕ} {one two : ℕ} {from : Mark} {start cou
 
     texts_left : all_texts (m.place - start) (alternatives_of t one) (drop i (alternatives_of t two)) m.register ≡ here_texts ++ later_texts
     unfolding all_texts
-    texts_left = ap (λ (ys : List SeqAlt). all_texts (m.place - start) (alternatives_of t one) ys m.register) (row-left S.numbers.rows h)
+    texts_left = ap (λ (ys : List SeqAlt). all_texts (m.place - start) (alternatives_of t one) ys m.register) (row_left S.numbers.rows h)
 
     texts_are : texts_of t work₁ row start mark ≡ here_texts
     unfolding row_texts
     texts_are = rw (kept_texts R.holds, pairs_are R, next_in R.holds e) refl
 
-    pub row_texts-room : m.place + length (texts_of t work₁ row start mark) ≤ length o'
-    row_texts-room =
+    pub row_texts_room : m.place + length (texts_of t work₁ row start mark) ≤ length o'
+    row_texts_room =
         same_room m.place (sym texts_are) (first_room m.place here_texts later_texts texts_left (omega (arith, S.room, S.going.place, S.going.long)))
 
     pub all_texts_on : {m₁ : Mark} {work₂ o₁ : List ℕ} → Onward o' o₁ mark m₁ (texts_of t work₁ row start mark) (pairs_of t row) → length work₁ ≡ length work

@@ -39,6 +39,6 @@ module _ {t outline : List ℕ} {one two first work : ℕ} (N : Numberable t out
       pub end_has_room : {o₂ : List ℕ} {b : ℕ} → Wrote o₁ o₂ a b match → b < length o₂
       end_has_room u = omega (arith, words_long, w.ends, still_long w, u.ends, still_long u)
 
-  pub listing-written : {o o₁ o₂ o₃ : List ℕ} {a b end : ℕ} → Wrote o o₁ 0 a stores → Wrote o₁ o₂ a b match → Wrote o₂ o₃ b end (word 14 0 ∷ [])
+  pub listing_written : {o o₁ o₂ o₃ : List ℕ} {a b end : ℕ} → Wrote o o₁ 0 a stores → Wrote o₁ o₂ a b match → Wrote o₂ o₃ b end (word 14 0 ∷ [])
       → Wrote o o₃ 0 end all_words
-  listing-written w u v = same_words (sym the_listing) (last (go match _ (go stores _ (begin _ _ _) w) u) v)
+  listing_written w u v = same_words (sym the_listing) (last (go match _ (go stores _ (begin _ _ _) w) u) v)

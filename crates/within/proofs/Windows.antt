@@ -19,7 +19,7 @@ use Rattle.expand.specs.ByNumber.{alternatives_of, nth}
 use Rattle.expand.proofs.Index.{rest_of}
 use Rattle.alternative.specs.Keeping.{chosen, Keepable, Keeps}
 use Rattle.alternative.proofs.Keeping.{few_to_keep, all_counted}
-use Rattle.alternative.proofs.Laws.{kept-window}
+use Rattle.alternative.proofs.Laws.{kept_window}
 use Rattle.pair.specs.Pairs.{Fitted}
 use Rattle.pair.specs.declared.Pair.{Pair}
 use Rattle.within.specs.declared.Row.{Row}
@@ -49,7 +49,7 @@ module _ {t o : List ℕ} {n count : ℕ} {work₀ : List ℕ} (K : Keepable t o
       long = kept.long ∙ S.long;
       wide = length-set windows j l ∙ S.wide;
       each = λ k below. elim (ℕ_discrete k j) [
-        | yes same ↦ rw same (get_or-set_same windows j l 0 (measuring_place h) ∙ e ∙ kept-window kept.holds)
+        | yes same ↦ rw same (get_or-set_same windows j l 0 (measuring_place h) ∙ e ∙ kept_window kept.holds)
         | no other ↦ get_or-set_other windows j k l 0 other ∙ S.each k (omega arith)
       ];
     }
@@ -180,8 +180,8 @@ module _ {t o windows : List ℕ} {row : Row} {count : ℕ} {work₀ work : List
       pub falls : count - j₁ < count - j
       falls = omega (arith, later)
 
-      pub next-left : left t row j ≡ fit row.window (chosen t row.one j) ∷ left t row j₁
-      next-left =
+      pub next_left : left t row j ≡ fit row.window (chosen t row.one j) ∷ left t row j₁
+      next_left =
           here_left
           ∙ ap (λ (fs : List Fitted). fit row.window (chosen t row.one j) ∷ fs)
           (rw e (all_passed row S.rowing.measured (j + 1) (count - (j + 1)) (omega (arith, S.counted))))

@@ -15,7 +15,7 @@ ghost use Rattle.alternative.specs.Keeping.{chosen, Keepable, Ended};
 ghost use Rattle.pair.specs.Pairs.{most_pair_registers};
 ghost use Rattle.pair.specs.Sizes.{longest_text};
 ghost use Rattle.within.specs.AllPairs.{fits_from, pairs_registers, pairs_stores, all_registers, all_stores, all_texts, within_match, within_words};
-ghost use Rattle.within.specs.AllSizes.{«plus», pairs_size, all_size, match_size, longest_match, AtMost};
+ghost use Rattle.within.specs.AllSizes.{plus, pairs_size, all_size, match_size, longest_match, AtMost};
 ghost use Rattle.within.specs.Rows.{Paired, Numberable, Windows, Rowed, Rowing, Beside, pairs_of, texts_of, Onward};
 
 use meaning::word;

@@ -124,8 +124,8 @@ written_part o at ws h =
     ∙ take_at ws (drop (at + length ws) o) (length ws) refl
 
 -- What was written from the front on is the first part of the list.
-pub front-written : {o o' : List ℕ} {n : ℕ} {ws : List ℕ} → Wrote o o' 0 n ws → length ws ≤ length o → take n o' ≡ ws
-front-written {o} {o'} {n} {ws} w h =
+pub front_written : {o o' : List ℕ} {n : ℕ} {ws : List ℕ} → Wrote o o' 0 n ws → length ws ≤ length o → take n o' ≡ ws
+front_written {o} {o'} {n} {ws} w h =
     let n_is : n ≡ length ws = omega (arith, w.ends) in
     rw (n_is, w.holds, spliced o 0 ws (omega arith)) (take-append_seam ws (drop (0 + length ws) o))
 

@@ -1,13 +1,13 @@
 -- `put_match` puts the texts one by one; what is left of them is said in `Joining`.
 use Rattle.alternative.proofs.Keeping.{outline_is_there, keepable_again}
-use Rattle.choice.proofs.Passes.{among, now_placed, now_ended, joining-begins, text-fits, closing-fits, joining_on, match_fits, joining-ends}
+use Rattle.choice.proofs.Passes.{among, now_placed, now_ended, joining_begins, text_fits, closing_fits, joining_on, match_fits, joining_ends}
 use Rattle.choice.proofs.put_match.Goals as goal
 
 pub count_of-count-requires : goal.count_of-count-requires
 count_of-count-requires c = search outline_is_there
 
 pub loop-i-init : goal.loop-i-init
-loop-i-init c = search joining-begins
+loop-i-init c = search joining_begins
 
 pub keep-kept-requires : goal.keep-kept-requires
 keep-kept-requires c = (search keepable_again, search among)
@@ -16,10 +16,10 @@ pub next_register-next-requires : goal.next_register-next-requires
 next_register-next-requires c = search now_placed
 
 pub root_text-p-requires : goal.root_text-p-requires
-root_text-p-requires c = (search now_ended, search text-fits)
+root_text-p-requires c = (search now_ended, search text_fits)
 
 pub close-p-requires : goal.close-p-requires
-close-p-requires c = search closing-fits
+close-p-requires c = search closing_fits
 
 pub loop-i-preserved : goal.loop-i-preserved
 loop-i-preserved c =
@@ -30,4 +30,4 @@ pub put-requires : goal.put-requires
 put-requires c = search match_fits
 
 pub returns : goal.returns
-returns c = search joining-ends
+returns c = search joining_ends

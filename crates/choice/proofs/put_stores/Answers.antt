@@ -1,6 +1,6 @@
 -- `put_stores` puts the assignments alternative by alternative; what is left of them is said in `Storing`.
 use Rattle.alternative.proofs.Keeping.{outline_is_there, keepable_again}
-use Rattle.choice.proofs.Passes.{among, now_placed, storing_begins, stores-fit, storing_on, storing_ends}
+use Rattle.choice.proofs.Passes.{among, now_placed, storing_begins, stores_fit, storing_on, storing_ends}
 use Rattle.choice.proofs.put_stores.Goals as goal
 
 pub count_of-count-requires : goal.count_of-count-requires
@@ -13,7 +13,7 @@ pub keep-kept-requires : goal.keep-kept-requires
 keep-kept-requires c = (search keepable_again, search among)
 
 pub stores-p-requires : goal.stores-p-requires
-stores-p-requires c = (search now_placed, search stores-fit)
+stores-p-requires c = (search now_placed, search stores_fit)
 
 pub next_register-r-requires : goal.next_register-r-requires
 next_register-r-requires c = search now_placed

@@ -1,19 +1,19 @@
 -- `root_text` puts the bare atom, or the text after the last step.
 use borrow.Author.Rules.{rules}
-use Rattle.choice.proofs.RootTexts.{other-room, other-written, bare-fits, bare-room, bare-written}
+use Rattle.choice.proofs.RootTexts.{other_room, other_written, bare_fits, bare_room, bare_written}
 use Rattle.choice.proofs.root_text.Goals as goal
 
 pub text-requires : goal.text-requires
-text-requires c = (search rules, search other-room)
+text-requires c = (search rules, search other_room)
 
 pub returns-in_default : goal.returns-in_default
-returns-in_default c = search other-written
+returns-in_default c = search other_written
 
 pub overflow_add-a : goal.overflow_add-a
-overflow_add-a c = search bare-fits
+overflow_add-a c = search bare_fits
 
 pub put-requires : goal.put-requires
-put-requires c = search bare-room
+put-requires c = search bare_room
 
 pub returns : goal.returns
-returns c = search bare-written
+returns c = search bare_written

@@ -1,5 +1,5 @@
 -- `consec_run_fsm` puts the activation, then the stores of one register after the other; what is left of them is said in `Running`.
-use Rattle.fsm.proofs.Laws.{running_begins, running_on, run_room, running_room, top-room, run_done}
+use Rattle.fsm.proofs.Laws.{running_begins, running_on, run_room, running_room, top_room, run_done}
 use borrow.Author.Rules.{rules}
 use Rattle.fsm.proofs.consec_run_fsm.Goals as goal
 
@@ -16,7 +16,7 @@ pub loop-i-preserved : goal.loop-i-preserved
 loop-i-preserved c = search running_on
 
 pub run_top-requires : goal.run_top-requires
-run_top-requires c = (search rules, search rules, search top-room)
+run_top-requires c = (search rules, search rules, search top_room)
 
 pub returns : goal.returns
 returns c = search run_done

@@ -1,5 +1,5 @@
 -- `goto_fsm` puts the first register's store, the second one's and then the others'; what is left of them is said in `Staging`.
-use Rattle.fsm.proofs.Laws.{fewer, fewer_than_all, staging_begins, staging_on, first_room, only_first, second_room, later-room, goto_done}
+use Rattle.fsm.proofs.Laws.{fewer, fewer_than_all, staging_begins, staging_on, first_room, only_first, second_room, later_room, goto_done}
 use borrow.Author.Rules.{rules}
 use Rattle.fsm.proofs.goto_fsm.Goals as goal
 
@@ -16,7 +16,7 @@ pub loop-i-init : goal.loop-i-init
 loop-i-init c = search staging_begins
 
 pub goto_later-p-requires : goal.goto_later-p-requires
-goto_later-p-requires c = (search rules, search rules, search rules, search later-room)
+goto_later-p-requires c = (search rules, search rules, search rules, search later_room)
 
 pub loop-i-preserved : goal.loop-i-preserved
 loop-i-preserved c = search staging_on

@@ -1,18 +1,18 @@
 -- `guard_text`, `bare_guard` and `repeated_guard` write the words of the numbered alternative's guard, by the node number; those of
 -- copies are joined one after the other.
 use borrow.Author.Rules.{rules}
-use Rattle.expand.proofs.Numbers.{node-inside, bare-below, bare-numbered, delay_counts, left_below, right-below, left-numbered, right-numbered, guarded-below, guarded-numbered, copied, copies-counts, block_below, block_numbered, copy_below, copy_inside, copy_some, copy_few, copy_numbered}
-use Rattle.guards.proofs.Laws.{unguarded-text, bare_guard_room, bare-guarded, left-room, right-room, delay_join_room, delay-guarded, condition_small, under-room, condition_room, throughout_join_room, throughout-guarded, block_room, block_guarded, single-unguarded, joining-begins, copy_room, copy_join_room, joining_on, joining-ends}
+use Rattle.expand.proofs.Numbers.{node_inside, bare_below, bare_numbered, delay_counts, left_below, right_below, left_numbered, right_numbered, guarded_below, guarded_numbered, copied, copies_counts, block_below, block_numbered, copy_below, copy_inside, copy_some, copy_few, copy_numbered}
+use Rattle.guards.proofs.Laws.{unguarded_text, bare_guard_room, bare_guarded, left_room, right_room, delay_join_room, delay_guarded, condition_small, under_room, condition_room, throughout_join_room, throughout_guarded, block_room, block_guarded, single_unguarded, joining_begins, copy_room, copy_join_room, joining_on, joining_ends}
 use Rattle.guards.proofs.+bare_guard_guard_text_repeated_guard.Goals as goal
 
 pub bare_guard-delay_parts-s-requires : goal.bare_guard-delay_parts-s-requires
 bare_guard-delay_parts-s-requires t c = search delay_counts
 
 pub bare_guard-guard_text-middle-requires : goal.bare_guard-guard_text-middle-requires
-bare_guard-guard_text-middle-requires t c = (search left_below, (search left-numbered, search left-room))
+bare_guard-guard_text-middle-requires t c = (search left_below, (search left_numbered, search left_room))
 
 pub bare_guard-guard_text-end-requires : goal.bare_guard-guard_text-end-requires
-bare_guard-guard_text-end-requires t c = (search right-below, (search right-numbered, search right-room))
+bare_guard-guard_text-end-requires t c = (search right_below, (search right_numbered, search right_room))
 
 pub bare_guard-join_guards-requires : goal.bare_guard-join_guards-requires
 bare_guard-join_guards-requires t c = search delay_join_room
@@ -20,10 +20,10 @@ bare_guard-join_guards-requires t c = search delay_join_room
 pub bare_guard-returns-then-v-eq-DELAY : goal.bare_guard-returns-then-v-eq-DELAY
 bare_guard-returns-then-v-eq-DELAY t c =
     let p = c.requires in
-    delay-guarded _ _ p.0 p.1 c.read-v.ensures c.if-v-eq-DELAY.true c.delay_parts-s.ensures c.guard_text-middle.ensures c.guard_text-end.ensures c.join_guards.ensures
+    delay_guarded _ _ p.0 p.1 c.read-v.ensures c.if-v-eq-DELAY.true c.delay_parts-s.ensures c.guard_text-middle.ensures c.guard_text-end.ensures c.join_guards.ensures
 
 pub bare_guard-guard_text-middle-requires-then-v-eq-THROUGHOUT : goal.bare_guard-guard_text-middle-requires-then-v-eq-THROUGHOUT
-bare_guard-guard_text-middle-requires-then-v-eq-THROUGHOUT t c = (search guarded-below, (search guarded-numbered, search under-room))
+bare_guard-guard_text-middle-requires-then-v-eq-THROUGHOUT t c = (search guarded_below, (search guarded_numbered, search under_room))
 
 pub bare_guard-put_condition-end-requires : goal.bare_guard-put_condition-end-requires
 bare_guard-put_condition-end-requires t c = (search condition_room, search condition_small)
@@ -32,11 +32,11 @@ pub bare_guard-join_guards-requires-then-v-eq-THROUGHOUT : goal.bare_guard-join_
 bare_guard-join_guards-requires-then-v-eq-THROUGHOUT t c = search throughout_join_room
 
 pub bare_guard-returns-then-v-eq-THROUGHOUT : goal.bare_guard-returns-then-v-eq-THROUGHOUT
-bare_guard-returns-then-v-eq-THROUGHOUT t c = search throughout-guarded
+bare_guard-returns-then-v-eq-THROUGHOUT t c = search throughout_guarded
 
 pub bare_guard-copies_block-s-requires : goal.bare_guard-copies_block-s-requires
 bare_guard-copies_block-s-requires t c =
-    copies-counts (search rules) c.read-v.ensures (copied _ _ c.made_of_copies.ensures c.if-made_of_copies.true)
+    copies_counts (search rules) c.read-v.ensures (copied _ _ c.made_of_copies.ensures c.if-made_of_copies.true)
 
 pub bare_guard-repeated_guard-requires : goal.bare_guard-repeated_guard-requires
 bare_guard-repeated_guard-requires t c = (search (block_below, copied), (search (block_numbered, copied), search (block_room, copied)))
@@ -45,25 +45,25 @@ pub bare_guard-returns-then-made_of_copies : goal.bare_guard-returns-then-made_o
 bare_guard-returns-then-made_of_copies t c = search (block_guarded, copied)
 
 pub bare_guard-returns : goal.bare_guard-returns
-bare_guard-returns t c = search single-unguarded
+bare_guard-returns t c = search single_unguarded
 
 pub guard_text-flag_of-requires : goal.guard_text-flag_of-requires
-guard_text-flag_of-requires t c = search node-inside
+guard_text-flag_of-requires t c = search node_inside
 
 pub guard_text-returns-then-flag_of-eq0 : goal.guard_text-returns-then-flag_of-eq0
-guard_text-returns-then-flag_of-eq0 t c = search unguarded-text
+guard_text-returns-then-flag_of-eq0 t c = search unguarded_text
 
 pub guard_text-bare_of-requires : goal.guard_text-bare_of-requires
-guard_text-bare_of-requires t c = search node-inside
+guard_text-bare_of-requires t c = search node_inside
 
 pub guard_text-bare_guard-requires : goal.guard_text-bare_guard-requires
-guard_text-bare_guard-requires t c = (search bare-below, (search bare-numbered, search bare_guard_room))
+guard_text-bare_guard-requires t c = (search bare_below, (search bare_numbered, search bare_guard_room))
 
 pub guard_text-returns : goal.guard_text-returns
-guard_text-returns t c = search bare-guarded
+guard_text-returns t c = search bare_guarded
 
 pub repeated_guard-loop-left-init : goal.repeated_guard-loop-left-init
-repeated_guard-loop-left-init t c = search joining-begins
+repeated_guard-loop-left-init t c = search joining_begins
 
 pub repeated_guard-copy_number-number-requires : goal.repeated_guard-copy_number-number-requires
 repeated_guard-copy_number-number-requires t c = (search copy_inside, search copy_some, search copy_few)
@@ -78,4 +78,4 @@ pub repeated_guard-loop-left-preserved : goal.repeated_guard-loop-left-preserved
 repeated_guard-loop-left-preserved t c = search joining_on
 
 pub repeated_guard-returns : goal.repeated_guard-returns
-repeated_guard-returns t c = search joining-ends
+repeated_guard-returns t c = search joining_ends

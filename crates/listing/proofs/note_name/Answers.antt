@@ -1,5 +1,5 @@
 -- An atom's number decides, and a register's beside the count.
-use Rattle.listing.proofs.NotedWord.{unknown_word, number_too_large, name_found, atom-noted, register_too_large, register-noted}
+use Rattle.listing.proofs.NotedWord.{unknown_word, number_too_large, name_found, atom_noted, register_too_large, register_noted}
 use borrow.Author.Rules.{rules}
 use Rattle.listing.proofs.note_name.Goals as goal
 
@@ -13,7 +13,7 @@ pub tallied-requires : goal.tallied-requires
 tallied-requires c = (search name_found, search rules)
 
 pub returns-then-w-lt-REGISTER : goal.returns-then-w-lt-REGISTER
-returns-then-w-lt-REGISTER c = search atom-noted
+returns-then-w-lt-REGISTER c = search atom_noted
 
 pub returns-then-count-w : goal.returns-then-count-w
 returns-then-count-w c = search register_too_large
@@ -22,4 +22,4 @@ pub tallied-requires-2 : goal.tallied-requires-2
 tallied-requires-2 c = (search name_found, search rules)
 
 pub returns : goal.returns
-returns c = search register-noted
+returns c = search register_noted

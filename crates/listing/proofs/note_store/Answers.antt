@@ -1,5 +1,5 @@
 -- A store at height 1: the argument is the number of stores so far.
-use Rattle.listing.proofs.NotedWord.{past_the_stores, store_not_alone, another-register, store_too_large, store_found, store-noted}
+use Rattle.listing.proofs.NotedWord.{past_the_stores, store_not_alone, another_register, store_too_large, store_found, store_noted}
 use borrow.Author.Rules.{rules}
 use Rattle.listing.proofs.note_store.Goals as goal
 
@@ -10,7 +10,7 @@ pub returns-then-s-ne1 : goal.returns-then-s-ne1
 returns-then-s-ne1 c = search store_not_alone
 
 pub returns-then-a-s : goal.returns-then-a-s
-returns-then-a-s c = search another-register
+returns-then-a-s c = search another_register
 
 pub returns-then-a-ge65536 : goal.returns-then-a-ge65536
 returns-then-a-ge65536 c = search store_too_large
@@ -19,4 +19,4 @@ pub tallied-requires : goal.tallied-requires
 tallied-requires c = (search store_found, search rules)
 
 pub returns : goal.returns
-returns c = search store-noted
+returns c = search store_noted

@@ -11,12 +11,11 @@ pub slice_bounds-put_ends-end : goal.slice_bounds-put_ends-end
 slice_bounds-put_ends-end c = sym (length-take-le _ _ (search rules))
 
 pub put_ends-requires : goal.put_ends-requires
-put_ends-requires c =
-    let start = c in (
-      zeros_ready (replicate 257 0) refl start.requires.0,
-      zeros_inside (replicate 257 0) refl start.requires.0 start.requires.1,
-      part_blank start.args.side (replicate 257 0) (zeros_blank 257),
-    )
+put_ends-requires c = (
+  zeros_ready (replicate 257 0) refl c.requires.0,
+  zeros_inside (replicate 257 0) refl c.requires.0 c.requires.1,
+  part_blank c.args.side (replicate 257 0) (zeros_blank 257),
+)
 
 pub returns : goal.returns
 returns c =

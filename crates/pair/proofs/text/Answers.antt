@@ -1,6 +1,6 @@
 -- `text` writes seq2's text, seq1's and what closes the pair.
 use borrow.Author.Rules.{rules}
-use Rattle.pair.proofs.Pairs.{pair_delays_fit, pair_next_fits, pair_slid, two_text_room, one_text_room, closing-room, pair_text_done}
+use Rattle.pair.proofs.Pairs.{pair_delays_fit, pair_next_fits, pair_slid, two_text_room, one_text_room, closing_room, pair_text_done}
 use Rattle.pair.proofs.text.Goals as goal
 
 pub overflow_cast-d : goal.overflow_cast-d
@@ -13,7 +13,7 @@ pub slid_text-b-requires : goal.slid_text-b-requires
 slid_text-b-requires c = (search pair_slid, search one_text_room)
 
 pub closed-p-requires : goal.closed-p-requires
-closed-p-requires c = search closing-room
+closed-p-requires c = search closing_room
 
 pub overflow_add-result : goal.overflow_add-result
 overflow_add-result c = search pair_next_fits

@@ -1,10 +1,10 @@
 -- `at_least` puts the latch alone, or behind its delays.
-use Rattle.pipeline.proofs.Laws.{latch-room, latch_done, late_room, late_done, latch_small, late_small}
+use Rattle.pipeline.proofs.Laws.{latch_room, latch_done, late_room, late_done, latch_small, late_small}
 use borrow.Author.Rules.{rules}
 use Rattle.pipeline.proofs.at_least.Goals as goal
 
 pub latch-requires : goal.latch-requires
-latch-requires c = (search rules, search rules, search latch_small, search latch-room)
+latch-requires c = (search rules, search rules, search latch_small, search latch_room)
 
 pub returns-then-m-lt2 : goal.returns-then-m-lt2
 returns-then-m-lt2 c = search latch_done

@@ -1,9 +1,9 @@
 -- `empties_fit` looks at hop after hop up to one that does not fit; what is left of them is said in `Fitting`.
-use Rattle.pipeline.proofs.Fit.{fitting-begins, fitting_on, fitting_fails, fitting-ends}
+use Rattle.pipeline.proofs.Fit.{fitting_begins, fitting_on, fitting_fails, fitting_ends}
 use Rattle.pipeline.proofs.empties_fit.Goals as goal
 
 pub loop-k-init : goal.loop-k-init
-loop-k-init c = search fitting-begins
+loop-k-init c = search fitting_begins
 
 pub returns-then-not-hop_fits : goal.returns-then-not-hop_fits
 returns-then-not-hop_fits c = search fitting_fails
@@ -12,4 +12,4 @@ pub loop-k-preserved : goal.loop-k-preserved
 loop-k-preserved c = search fitting_on
 
 pub returns : goal.returns
-returns c = search fitting-ends
+returns c = search fitting_ends

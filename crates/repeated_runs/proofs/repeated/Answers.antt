@@ -3,7 +3,7 @@
 use mathlib.Core.Path.{sym}
 use borrow.Author.Rules.{rules}
 use Rattle.repeated_runs.proofs.Rows.{part_long, part_short, part_fits}
-use Rattle.repeated_runs.proofs.Repeating.{Made, Lacking, repeating_begins, repeating_on, repeating_settles, repeating_ends, last-lacking, closed_lacking, nothing-lacking}
+use Rattle.repeated_runs.proofs.Repeating.{Made, Lacking, repeating_begins, repeating_on, repeating_settles, repeating_ends, last_lacking, closed_lacking, nothing_lacking}
 use Rattle.repeated_runs.proofs.repeated.Goals as goal
 use Rattle.repeated_runs.proofs.repeated.Goals.{else-loop-copies-test, then-loop-copies-test+then-same, then-side-max, else-side-max}
 
@@ -35,6 +35,6 @@ returns c =
     ]
     in
     let lacking : Lacking a.tables.now a.table a.min a.max a.i a.row.now c.loop-copies-test.row c.if-side-max.ends =
-    elim c.if-side-max.branch [ then-side-max w ↦ search (closed_lacking, made) | else-side-max w ↦ search (last-lacking, made) ]
+    elim c.if-side-max.branch [ then-side-max w ↦ search (closed_lacking, made) | else-side-max w ↦ search (last_lacking, made) ]
     in
-    search (nothing-lacking, lacking)
+    search (nothing_lacking, lacking)

@@ -1,6 +1,6 @@
 -- `load` puts the entries of the map, row by row.
 use borrow.Author.Rules.{rules}
-use Rattle.sensor.proofs.Laws.{filling_begins, row_on, map-ends}
+use Rattle.sensor.proofs.Laws.{filling_begins, row_on, map_ends}
 use Rattle.sensor.proofs.load.Goals as goal
 
 pub loop-row-init : goal.loop-row-init
@@ -10,4 +10,4 @@ pub loop-row-preserved : goal.loop-row-preserved
 loop-row-preserved c = search row_on
 
 pub returns : goal.returns
-returns c = record { wrote = search map-ends; inside = search rules }
+returns c = record { wrote = search map_ends; inside = search rules }

@@ -1,9 +1,9 @@
 -- `sizes` counts step after step; what is left of them is said in `Sizing`.
-use Rattle.sizes.proofs.Laws.{guard-short, sizing_begins, sizing_guard, sizing_text, sizing_stores, sizing_registers, sizing_on, sizing_ends}
+use Rattle.sizes.proofs.Laws.{guard_short, sizing_begins, sizing_guard, sizing_text, sizing_stores, sizing_registers, sizing_on, sizing_ends}
 use Rattle.sizes.proofs.sizes.Goals as goal
 
 pub first_size-z-requires : goal.first_size-z-requires
-first_size-z-requires c = search guard-short
+first_size-z-requires c = search guard_short
 
 pub loop-k-init : goal.loop-k-init
 loop-k-init c = search sizing_begins

@@ -1,11 +1,11 @@
 -- `lead` puts the first term, variant by variant.
 use Rattle.step_text.specs.Text.{lead_text}
-use Rattle.step_text.proofs.Laws.{lead_in, lead_room, lead_word_room, lead_machine_in, lead_machine_room, atom-fits}
+use Rattle.step_text.proofs.Laws.{lead_in, lead_room, lead_word_room, lead_machine_in, lead_machine_room, atom_fits}
 use borrow.Author.Rules.{rules}
 use Rattle.step_text.proofs.lead.Goals as goal
 
 pub overflow_add-a : goal.overflow_add-a
-overflow_add-a c = search atom-fits
+overflow_add-a c = search atom_fits
 
 pub copied-requires : goal.copied-requires
 unfolding lead_text

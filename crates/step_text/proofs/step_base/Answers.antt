@@ -1,6 +1,6 @@
 -- `step_base` puts the term's text around the hop's, or the term's anew.
 use Rattle.step_text.proofs.Laws.{no_keep}
-use Rattle.step_text.proofs.StepParts.{base_first, base_then, base_last, base_done, anew-room, anew_done, hop_anew, term_small, hop_small}
+use Rattle.step_text.proofs.StepParts.{base_first, base_then, base_last, base_done, anew_room, anew_done, hop_anew, term_small, hop_small}
 use borrow.Author.Rules.{rules}
 use Rattle.step_text.proofs.step_base.Goals as goal
 
@@ -17,7 +17,7 @@ pub returns-then-term_keeps : goal.returns-then-term_keeps
 returns-then-term_keeps c = search base_done
 
 pub term_base-requires : goal.term_base-requires
-term_base-requires c = (search anew-room, search no_keep, search term_small)
+term_base-requires c = (search anew_room, search no_keep, search term_small)
 
 pub returns : goal.returns
 returns c = search anew_done

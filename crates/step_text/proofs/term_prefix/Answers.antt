@@ -1,18 +1,18 @@
 -- `term_prefix` puts what stands in front of an activation, variant by variant.
 use Rattle.step_text.specs.Text.{term_prefix}
 use Rattle.words.proofs.Laws.{nothing_written}
-use Rattle.step_text.proofs.Laws.{prefix_in, prefix_room, atom-fits}
+use Rattle.step_text.proofs.Laws.{prefix_in, prefix_room, atom_fits}
 use Rattle.step_text.proofs.term_prefix.Goals as goal
 
 pub overflow_add-b : goal.overflow_add-b
-overflow_add-b c = search atom-fits
+overflow_add-b c = search atom_fits
 
 pub copied-requires : goal.copied-requires
 unfolding term_prefix
 copied-requires c = search prefix_room
 
 pub overflow_add-b-in-Nonconsec : goal.overflow_add-b-in-Nonconsec
-overflow_add-b-in-Nonconsec c = search atom-fits
+overflow_add-b-in-Nonconsec c = search atom_fits
 
 pub copied-requires-in-Nonconsec : goal.copied-requires-in-Nonconsec
 unfolding term_prefix

@@ -1,7 +1,7 @@
 -- `term_suffix` puts what stands behind an activation, variant by variant.
 use Rattle.step_text.specs.Text.{term_suffix}
 use Rattle.words.proofs.Laws.{nothing_written}
-use Rattle.step_text.proofs.Laws.{suffix_in, suffix_room, atom-fits}
+use Rattle.step_text.proofs.Laws.{suffix_in, suffix_room, atom_fits}
 use Rattle.step_text.proofs.term_suffix.Goals as goal
 
 pub copied-requires : goal.copied-requires
@@ -13,14 +13,14 @@ unfolding term_suffix
 copied-requires-in-Goto c = search suffix_room
 
 pub overflow_add-b : goal.overflow_add-b
-overflow_add-b c = search atom-fits
+overflow_add-b c = search atom_fits
 
 pub copied-requires-in-Nonconsec : goal.copied-requires-in-Nonconsec
 unfolding term_suffix
 copied-requires-in-Nonconsec c = search suffix_room
 
 pub overflow_add-b-in-ConsecAtLeast : goal.overflow_add-b-in-ConsecAtLeast
-overflow_add-b-in-ConsecAtLeast c = search atom-fits
+overflow_add-b-in-ConsecAtLeast c = search atom_fits
 
 pub copied-requires-in-ConsecAtLeast : goal.copied-requires-in-ConsecAtLeast
 unfolding term_suffix

@@ -1,5 +1,5 @@
 -- The first line, then the lines of the listing.
-use Rattle.text.proofs.ListingLines.{listed_part, lines_room, refusal_text, listing-text}
+use Rattle.text.proofs.ListingLines.{listed_part, lines_room, refusal_text, listing_text}
 use Rattle.text.proofs.whole_text.Goals as goal
 
 pub returns-in_default : goal.returns-in_default
@@ -12,4 +12,4 @@ pub lines-requires : goal.lines-requires
 lines-requires c = search lines_room
 
 pub returns : goal.returns
-returns c = search listing-text
+returns c = search listing_text

@@ -1,5 +1,5 @@
 -- One word on the stack, by the kind of its operation.
-use Rattle.tick.proofs.AppliedWord.{one_there, two_there, room_for-one, room_for-two, top_bit, second_bit}
+use Rattle.tick.proofs.AppliedWord.{one_there, two_there, room_for_one, room_for_two, top_bit, second_bit}
 use Rattle.tick.proofs.AppliedWord.{value_finds, any_finds, not_finds, and_finds, or_finds, value_room, not_room, and_room, or_room}
 use Rattle.tick.proofs.AppliedWord.{apply_value, apply_any, apply_not, apply_and, apply_or}
 use borrow.Author.Rules.{rules}
@@ -21,7 +21,7 @@ pub overflow_sub-y : goal.overflow_sub-y
 overflow_sub-y c = search one_there
 
 pub bounds-stack-height : goal.bounds-stack-height
-bounds-stack-height c = search room_for-one
+bounds-stack-height c = search room_for_one
 
 pub overflow_sub-y-then-o-lt-AND : goal.overflow_sub-y-then-o-lt-AND
 overflow_sub-y-then-o-lt-AND c = search top_bit
@@ -36,7 +36,7 @@ pub overflow_sub-x : goal.overflow_sub-x
 overflow_sub-x c = search two_there
 
 pub bounds-stack-height-2 : goal.bounds-stack-height-2
-bounds-stack-height-2 c = search room_for-two
+bounds-stack-height-2 c = search room_for_two
 
 pub both-requires : goal.both-requires
 both-requires c = search second_bit

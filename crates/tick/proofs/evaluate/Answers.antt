@@ -1,6 +1,6 @@
 -- The loop keeps `Evaluating`: what remains gives the rest of the stores and the match bit.
 use borrow.Author.Rules.{rules}
-use Rattle.tick.proofs.Evaluating.{evaluating_begins, applicable, value_there, room_for-store, store_finds, evaluating_on, evaluating_stored, evaluated_there, never_past}
+use Rattle.tick.proofs.Evaluating.{evaluating_begins, applicable, value_there, room_for_store, store_finds, evaluating_on, evaluating_stored, evaluated_there, never_past}
 use Rattle.tick.proofs.evaluate.Goals as goal
 
 pub loop-at-init : goal.loop-at-init
@@ -16,7 +16,7 @@ pub returns-then-o-eq-MATCH : goal.returns-then-o-eq-MATCH
 returns-then-o-eq-MATCH c = search evaluated_there
 
 pub store-stores-requires : goal.store-stores-requires
-store-stores-requires c = search room_for-store
+store-stores-requires c = search room_for_store
 
 pub moved-height-requires : goal.moved-height-requires
 moved-height-requires c = (search store_finds, search rules)

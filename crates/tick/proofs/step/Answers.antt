@@ -1,9 +1,9 @@
 -- 22 and 23, then the evaluation and the cleared stack.
-use Rattle.tick.proofs.Refusals.{short-tick, part_long, atom_above_one, register_above_one, nothing_refused, evaluated_tick}
+use Rattle.tick.proofs.Refusals.{short_tick, part_long, atom_above_one, register_above_one, nothing_refused, evaluated_tick}
 use Rattle.tick.proofs.step.Goals as goal
 
 pub returns-then-lacks : goal.returns-then-lacks
-returns-then-lacks c = search short-tick
+returns-then-lacks c = search short_tick
 
 pub returns-then-not-wanted : goal.returns-then-not-wanted
 returns-then-not-wanted c = search atom_above_one

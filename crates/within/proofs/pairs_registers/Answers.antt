@@ -2,8 +2,8 @@
 use borrow.Author.Rules.{rules}
 use Rattle.alternative.proofs.Keeping.{outline_is_there}
 use Rattle.within.proofs.Windows.{windows_there, windows_still, rowing_still, fits_here, falls}
-use Rattle.within.proofs.KeptPairs.{beside-delays}
-use Rattle.within.proofs.RegisterPass.{pair_registers_begin, pair_registers-fit, pair_registers_on, pair_registers_end, pair_registers_small}
+use Rattle.within.proofs.KeptPairs.{beside_delays}
+use Rattle.within.proofs.RegisterPass.{pair_registers_begin, pair_registers_fit, pair_registers_on, pair_registers_end, pair_registers_small}
 use Rattle.within.proofs.pairs_registers.Goals as goal
 
 pub count_of-count-requires : goal.count_of-count-requires
@@ -19,10 +19,10 @@ pub beside-both-requires : goal.beside-both-requires
 beside-both-requires c = (search rowing_still, search rules, search fits_here)
 
 pub registers-total-requires : goal.registers-total-requires
-registers-total-requires c = (search rules, search beside-delays)
+registers-total-requires c = (search rules, search beside_delays)
 
 pub overflow_add-total : goal.overflow_add-total
-overflow_add-total c = search pair_registers-fit
+overflow_add-total c = search pair_registers_fit
 
 pub next_fitting-j-requires-in-loop-j : goal.next_fitting-j-requires-in-loop-j
 next_fitting-j-requires-in-loop-j c = (search windows_still, search rules)

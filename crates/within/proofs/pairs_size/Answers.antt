@@ -2,7 +2,7 @@
 use borrow.Author.Rules.{rules}
 use Rattle.alternative.proofs.Keeping.{outline_is_there}
 use Rattle.within.proofs.Windows.{windows_there, windows_still, rowing_still, fits_here, falls}
-use Rattle.within.proofs.SizePass.{pair_sizes_begin, pair_countable, pair_delays_few, pair_text-short, pair_stores-few, pair_sizes_text_fit, pair_sizes_stores_fit, pair_sizes_on, pair_sizes_end, pair_sizes_low}
+use Rattle.within.proofs.SizePass.{pair_sizes_begin, pair_countable, pair_delays_few, pair_text_short, pair_stores_few, pair_sizes_text_fit, pair_sizes_stores_fit, pair_sizes_on, pair_sizes_end, pair_sizes_low}
 use Rattle.within.proofs.pairs_size.Goals as goal
 
 pub count_of-count-requires : goal.count_of-count-requires
@@ -21,7 +21,7 @@ pub size-own-requires : goal.size-own-requires
 size-own-requires c = search pair_countable
 
 pub size-requires : goal.size-requires
-size-requires c = (search pair_text-short, search pair_stores-few, search rules, search pair_delays_few)
+size-requires c = (search pair_text_short, search pair_stores_few, search rules, search pair_delays_few)
 
 pub plus-total-requires : goal.plus-total-requires
 plus-total-requires c = (search pair_sizes_text_fit, search pair_sizes_stores_fit)

@@ -3,7 +3,7 @@ use borrow.Author.Rules.{rules}
 use Rattle.alternative.proofs.Keeping.{outline_is_there}
 use Rattle.within.proofs.Windows.{windows_there, windows_still, rowing_still, fits_here, falls}
 use Rattle.within.proofs.Numbering.{pair_numbers_small}
-use Rattle.within.proofs.StorePass.{pair_stores_begin, pair_stores-room, pair_stores_on, pair_stores_end}
+use Rattle.within.proofs.StorePass.{pair_stores_begin, pair_stores_room, pair_stores_on, pair_stores_end}
 use Rattle.within.proofs.pairs_stores.Goals as goal
 
 pub count_of-count-requires : goal.count_of-count-requires
@@ -19,7 +19,7 @@ pub beside-both-requires : goal.beside-both-requires
 beside-both-requires c = (search rowing_still, search rules, search fits_here)
 
 pub stores-m-requires : goal.stores-m-requires
-stores-m-requires c = (search pair_numbers_small, search pair_stores-room)
+stores-m-requires c = (search pair_numbers_small, search pair_stores_room)
 
 pub next_fitting-j-requires-in-loop-j : goal.next_fitting-j-requires-in-loop-j
 next_fitting-j-requires-in-loop-j c = (search windows_still, search rules)

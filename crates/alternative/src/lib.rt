@@ -8,12 +8,13 @@
 
 ghost use Rattle.std.specs.Prelude.{◌≡◌, ◌+◌, ◌≤◌, ◌<◌, length};
 ghost use Rattle.words.specs.Written.{Wrote};
-ghost use Rattle.term.specs.Keeping.{Whole};
 ghost use Rattle.current.specs.Text.{registers_before, most_registers};
 ghost use Rattle.current.specs.Walk.{Placed};
 ghost use Rattle.sizes.specs.Sizes.{Countable, most_words};
 ghost use Rattle.expand.specs.ByNumber.{alternatives_of};
 ghost use Rattle.alternative.specs.Keeping.{chosen, Keepable, Keeps, Ended, kept_text, kept_size};
+
+use term::Alternative;
 
 // Keeps the i-th alternative of node n in work, from the place on: its steps, then its guard. Its registers begin with r.
 pub fn keep(
@@ -33,44 +34,44 @@ pub fn keep(
     term::Kept {
         from: at,
         steps: (guard - at) / 5,
-        guard: guard,
-        end: end,
+        guard,
+        end,
         register: r,
     }
 }
 
 // How many registers a kept alternative has.
-pub fn registers(work: &[u32], kept: term::Kept) -> u64
-    requires { Whole work.now kept }
-    ensures value { result ≡ registers_before work.now kept kept.steps }
+pub fn registers(y: Alternative<'_>) -> u64
+    ensures value { result ≡ registers_before y.entry.work.now y.entry.kept y.entry.kept.steps }
     ensures small { result ≤ most_registers }
 {
-    pipeline::registers(work, kept, kept.steps)
+    pipeline::registers(y, y.kept.steps)
 }
 
 // The register after a kept alternative's last.
-pub fn next_register(work: &[u32], kept: term::Kept) -> u32
-    requires { Placed work.now kept }
-    ensures { result ≡ kept.register + registers_before work.now kept kept.steps }
+pub fn next_register(y: Alternative<'_>) -> u32
+    requires { Placed y.work.now y.kept }
+    ensures { result ≡ y.entry.kept.register + registers_before y.entry.work.now y.entry.kept y.entry.kept.steps }
 {
-    kept.register + registers(work, kept) as u32
+    y.kept.register + registers(y) as u32
 }
 
 // Puts the text of a kept alternative, which stands after its last step; `next` is the register after its last.
-pub fn text(work: &[u32], kept: term::Kept, next: u32, out: &mut [u32], at: usize) -> usize
-    requires { Ended work.now kept next × (at + length (kept_text work.now kept) ≤ length out.old) }
-    ensures { Wrote out.old out.new at result (kept_text work.now kept) }
+pub fn text(y: Alternative<'_>, next: u32, out: &mut [u32], at: usize) -> usize
+    requires { Ended y.work.now y.kept next × (at + length (kept_text y.work.now y.kept) ≤ length out.old) }
+    ensures { Wrote out.old out.new at result (kept_text y.entry.work.now y.entry.kept) }
 {
-    let last = kept.steps - 1;
-    let r = next - current::registers_at(work, kept, last) as u32;
-    current::current(work, kept, last, r, out, at)
+    let last = y.kept.steps - 1;
+    let r = next - current::registers_at(y, last) as u32;
+    current::current(y, last, r, out, at)
 }
 
 // How many words a kept alternative's text and its assignments have.
-pub fn size(work: &[u32], kept: term::Kept) -> sizes::Size
-    requires { Countable work.now kept }
-    ensures value { result ≡ kept_size work.now kept }
+#[tactic(auto, using(crate::proofs::Laws::sized, crate::proofs::Laws::sized_small))]
+pub fn size(y: Alternative<'_>) -> sizes::Size
+    requires { Countable y.work.now y.kept }
+    ensures value { result ≡ kept_size y.entry.work.now y.entry.kept }
     ensures small { result.text + result.stores ≤ most_words }
 {
-    sizes::sizes(work, kept)
+    sizes::sizes(y)
 }

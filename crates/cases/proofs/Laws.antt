@@ -1,105 +1,81 @@
 -- A text is read from the front: what the three loops keep, and a word's number that is put where there is room.
-use mathlib.Core.Bool.{Bool, true, false}
+use mathlib.Core.Bool.{Bool, true, false, cond, not}
 use mathlib.Core.Path.{◌≡◌, refl, sym, ap, ◌∙◌}
 use mathlib.Core.List.{List, [], ◌∷◌, ◌++◌, append-nil, append_assoc}
-use Prim.Native.Nat.{ℕ, zero, suc, ◌+◌, ◌-◌, ◌*◌, ◌<◌, ◌≤◌, min}
+use Prim.Native.Nat.{ℕ, zero, suc, ◌+◌, ◌-◌, ◌<◌, ◌≤◌}
 use Prim.Native.Char.{code}
 use native.Mathlib.Nat.{sub-zero}
 use native.Mathlib.Omega.{arith}
-use borrow.Author.Tests.{eq-eqb, ne_eqb}
+use Rattle.std.proofs.Common.{one-add, Some, None}
+use Rattle.std.specs.List.{fold, position, position_or_len}
+use Rattle.std.proofs.lemmas.List.Recursion.{is_position_or_len}
+use Rattle.std.proofs.lemmas.Bool.Decides.{nat_tests}
+use Rattle.std.proofs.lemmas.List.Sums.{prefix_len-le-length}
 use lib.Dec.{eqb}
-use lib.ListN.{length, get_or, take, drop, drop_of_length-le, length-take}
-use lib.Seq.{drop-drop, take-nil}
-use Rattle.words.specs.Choice.{pick, pick_true, pick_false, tests}
-use Rattle.words.specs.Written.{Wrote}
-use Rattle.words.proofs.Laws.{Going, begin, go, done, drop_here, nothing_written, same_words}
+use lib.ListN.{length, take, drop, drop_of_length-le, length-take, length-drop}
+use lib.Seq.{take_all, drop-drop, take-nil}
+use Rattle.words.specs.Choice.{pick}
+use Rattle.words.specs.Written.{written, Wrote}
+use Rattle.words.proofs.Laws.{Going, begin, go, done, nothing_written}
 use Rattle.cases.specs.Lines.{bytes_before, next_place, with_digit, number_behind, number_of, numbers_of_word, numbers_from, numbers_of}
 
--- The loop of `until`: the byte does not stand between `from` and `i`.
-pub record Seeking (text : List ℕ) (from byte i : ℕ) : Type 0 where
-  pub behind : from ≤ i
-  pub inside : i ≤ length text
-  pub rest : next_place text from byte ≡ next_place text i byte
+pick_is_cond : {A : Type 0} (b : Bool) (x y : A) → pick b x y ≡ cond b x y
+unfolding pick
+pick_is_cond true x y = refl
+pick_is_cond false x y = refl
 
--- The search begins at a place in the text.
-pub seeking_begins : (text : List ℕ) (from byte : ℕ) → from ≤ length text → Seeking text from byte from
-seeking_begins text from byte h = record { behind = omega arith; inside = h; rest = refl }
+-- As many bytes stand in front of the first that is `byte` as a search passes.
+pub search_passes : (byte : ℕ) (bs : List ℕ) → bytes_before byte bs ≡ position_or_len (λ b. eqb b byte) bs
+unfolding bytes_before
+search_passes byte bs = is_position_or_len (bytes_before byte) (λ b. eqb b byte) refl (λ b rest. rw one-add (pick_is_cond (eqb b byte) 0 (suc (bytes_before byte rest)))) bs
 
-module _ {text : List ℕ} {from byte i : ℕ} (s : Seeking text from byte i) where
-  -- Another byte is passed.
-  pub seeking_on : i < length text → (get_or text i 0 ≡ byte → ⊥) → Seeking text from byte (i + 1)
-  unfolding bytes_before
-  seeking_on h other =
-      let here : bytes_before byte (drop i text) ≡ suc (bytes_before byte (drop (i + 1) text)) =
-      rw (drop_here text i h) (pick_false _ _ (ne_eqb _ _ other)) in
-      record { behind = omega (arith, s.behind); inside = omega arith; rest = omega (arith, s.rest) }
+-- The bytes from a place on.
+rest_whole : (text : List ℕ) (from : ℕ) → take (length text - from) (drop from text) ≡ drop from text
+rest_whole text from = take_all (length text - from) (drop from text) (simp length-drop (omega arith))
 
-  -- The search ends where the byte stands.
-  pub seeking_finds : i < length text → get_or text i 0 ≡ byte → i ≡ next_place text from byte
-  unfolding bytes_before
-  seeking_finds h found =
-      let here : bytes_before byte (drop i text) ≡ 0 = rw (drop_here text i h) (pick_true _ _ (eq-eqb _ _ found)) in
-      omega (arith, s.rest)
+-- The two returns of `until`.
+pub byte_found : (text : List ℕ) (from byte : ℕ) {passed : ℕ} → Some passed ≡ position (λ b. eqb b byte) (take (length text - from) (drop from text))
+    → from + passed ≡ next_place text from byte
+byte_found text from byte e =
+    let whole = rw rest_whole at e in
+    rw search_passes (grind (arith, nat_tests))
 
-  -- The search ends with the text, where the byte stands nowhere.
-  pub seeking_ends : length text ≤ i → i ≡ next_place text from byte
-  unfolding bytes_before
-  seeking_ends h =
-      let here : bytes_before byte (drop i text) ≡ 0 = rw (drop_of_length-le text {i = i} h) refl in
-      omega (arith, s.rest)
+pub no_byte : (text : List ℕ) (from byte : ℕ) → from ≤ length text → None ≡ position (λ b. eqb b byte) (take (length text - from) (drop from text))
+    → length text ≡ next_place text from byte
+no_byte text from byte h e =
+    let whole = rw rest_whole at e in
+    let long = length-drop from text in
+    let few = prefix_len-le-length (λ b. not (eqb b byte)) (drop from text) in
+    rw search_passes (grind (arith, nat_tests))
 
--- A byte from 0 to 9 is a digit more, of a number that is at most 4,294,967,295.
-digit_added : (value : ℕ) {byte r : ℕ} → 48 ≤ byte → byte ≤ 57 → r ≡ min (value * 10 + (byte - 48)) 4294967295 → r ≡ with_digit value byte
-unfolding with_digit
-digit_added value h k e = search tests
+-- The bytes are read from the first to the last.
+pub number_folds : (value : ℕ) (bs : List ℕ) → number_behind value bs ≡ fold with_digit value bs
+unfolding number_behind
+number_folds value [] = refl
+number_folds value (b ∷ bs) = number_folds (with_digit value b) bs
 
--- A digit more makes the longer number, where it is not too large.
-pub digit_more : (value byte : ℕ) → 48 ≤ byte → byte ≤ 57 → value * 10 + (byte - 48) ≤ 4294967295 → value * 10 + (byte - 48) ≡ with_digit value byte
-digit_more value byte h k small = digit_added value h k (omega arith)
-
--- A digit more makes the largest number, where the longer one is too large.
-pub digit_too_many : (value byte : ℕ) → 48 ≤ byte → byte ≤ 57 → 4294967295 < value * 10 + (byte - 48) → 4294967295 ≡ with_digit value byte
-digit_too_many value byte h k large = digit_added value h k (omega arith)
-
--- The loop of `number`: the digits from the i-th byte on remain.
-pub record Valuing (word : List ℕ) (value i : ℕ) : Type 0 where
-  pub rest : number_of word ≡ number_behind value (drop i word)
-
--- Nothing is read yet.
-pub valuing_begins : (word : List ℕ) → Valuing word 0 0
-valuing_begins word = record { rest = refl }
-
-module _ {word : List ℕ} {value i : ℕ} (v : Valuing word value i) where
-  -- A byte more is read.
-  pub valuing_on : {longer : ℕ} → i < length word → longer ≡ with_digit value (get_or word i 0) → Valuing word longer (i + 1)
-  unfolding number_behind
-  valuing_on h e = record { rest = v.rest ∙ rw (drop_here word i h, e) refl }
-
-  -- The word is read.
-  pub valuing_ends : length word ≤ i → value ≡ number_of word
-  unfolding number_behind
-  valuing_ends h = sym (v.rest ∙ rw (drop_of_length-le word {i = i} h) refl)
-
--- A word without bytes has no number to put.
-pub no_word : (word out : List ℕ) (place : ℕ) → length word ≡ 0 → Wrote out out place place (take (length out - place) (numbers_of_word word))
+-- A word without bytes has no number, any other has one.
+pub no_number : (word : List ℕ) → length word ≡ 0 → numbers_of_word word ≡ []
 unfolding numbers_of_word
-no_word [] out place h = same_words (sym (take-nil (length out - place))) (nothing_written out place)
-no_word (b ∷ bs) out place h = absurd (omega arith)
+no_number [] h = refl
+no_number (b ∷ bs) h = absurd (omega arith)
 
--- Where there is no room no number is put.
-pub no_room : (word out : List ℕ) (place : ℕ) → length out ≤ place → Wrote out out place place (take (length out - place) (numbers_of_word word))
-no_room word out place h =
-    let e : length out - place ≡ 0 = omega arith in
-    rw e (nothing_written out place)
-
--- Any other word's number is put.
-pub number_put : (word : List ℕ) {out out' : List ℕ} {place next value : ℕ} → (length word ≡ 0 → ⊥) → place < length out
-    → value ≡ number_of word → Wrote out out' place next (value ∷ []) → Wrote out out' place next (take (length out - place) (numbers_of_word word))
+pub one_number : (word : List ℕ) → 0 < length word → numbers_of_word word ≡ number_of word ∷ []
 unfolding numbers_of_word
-number_put [] h k e w = absurd (h refl)
-number_put (b ∷ bs) {out} {place = place} h k e w =
-    let one : length out - place ≡ suc (length out - (place + 1)) = omega arith in
-    same_words (rw (one, e) (ap (λ (l : List ℕ). number_of (b ∷ bs) ∷ l) (sym (take-nil (length out - (place + 1)))))) w
+one_number [] h = absurd (omega arith)
+one_number (b ∷ bs) h = refl
+
+-- It is put where there is room.
+pub none_taken : (n : ℕ) (xs : List ℕ) → n ≡ 0 → take n xs ≡ []
+none_taken n xs e = rw e
+
+pub one_taken : (n x : ℕ) → 0 < n → take n (x ∷ []) ≡ x ∷ []
+one_taken n x h = take_all n (x ∷ []) (omega arith)
+
+pub nothing_put : (out : List ℕ) (place : ℕ) → written out place [] ≡ out
+nothing_put out place = sym (nothing_written out place).holds
+
+pub ruleset adding = (no_number, one_number, none_taken, one_taken, take-nil, nothing_put)
 
 -- As many of two lists, one behind the other, as there is room for: of the second what the first leaves.
 take_both : (room : ℕ) (xs ys : List ℕ) → take room (xs ++ ys) ≡ take room xs ++ take (room - length (take room xs)) ys

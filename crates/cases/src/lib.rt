@@ -3,9 +3,17 @@
 // Example: of the line "12 x7 5" the numbers are 12, 7 and 5; a byte that is no digit is skipped.
 #![tactic(auto)]
 
-ghost use Rattle.std.specs.Prelude.{◌≡◌, ◌-◌, ◌≤◌, min, length, take};
+ghost use Rattle.std.specs.Prelude.{◌≡◌, ◌-◌, ◌≤◌, ◌==◌, min, length, take};
+ghost use Rattle.std.specs.List.{position};
 ghost use Rattle.words.specs.Written.{Wrote};
 ghost use Rattle.cases.specs.Lines.{next_place, with_digit, number_of, numbers_of_word, numbers_of};
+
+// Where the byte first stands.
+fn place_of(byte: u8, bytes: &[u8]) -> Option<usize>
+    ensures { result ≡ position (λ b. b == byte) bytes.now }
+{
+    bytes.iter().position(|b| *b == byte)
+}
 
 // Where the byte next stands from the place on, or the text's end.
 pub fn until(text: &[u8], from: usize, byte: u8) -> usize
@@ -13,58 +21,44 @@ pub fn until(text: &[u8], from: usize, byte: u8) -> usize
     ensures value { result ≡ next_place text.now from byte }
     ensures inside { (from ≤ result) × (result ≤ length text.now) }
 {
-    let mut i = from;
-    while i < text.len() {
-        if text[i] == byte {
-            return i;
-        }
-        i += 1;
+    match place_of(byte, &text[from..]) {
+        Some(passed) => from + passed,
+        None => text.len(),
     }
-    i
 }
 
 // A number with one more digit, at most 4,294,967,295. Any other byte changes nothing.
+#[tactic(auto, using(words::specs::Choice::pick_true, words::specs::Choice::pick_false, std::proofs::lemmas::Bool::Decides::nat_tests), unfolding(crate::specs::Lines::with_digit))]
 fn with_digit(value: u32, byte: u8) -> u32
     ensures { result ≡ with_digit value byte }
 {
-    if byte < b'0' {
-        return value;
+    match byte {
+        b'0'..=b'9' => value
+            .saturating_mul(10)
+            .saturating_add(u32::from(byte - b'0')),
+        _ => value,
     }
-    if b'9' < byte {
-        return value;
-    }
-    let longer = value as u64 * 10 + (byte - b'0') as u64;
-    if 4294967295 < longer {
-        return 4294967295;
-    }
-    longer as u32
 }
 
 // The number that the digits of a word write.
+#[tactic(auto, using(crate::proofs::Laws::number_folds))]
 fn number(word: &[u8]) -> u32
     ensures { result ≡ number_of word.now }
 {
-    let mut value = 0;
-    let mut i = 0;
-    while i < word.len() {
-        value = with_digit(value, word[i]);
-        i += 1;
-    }
-    value
+    word.iter().fold(0, |value, byte| with_digit(value, *byte))
 }
 
 // Puts the number of a word at the place, if the word has bytes and there is room; the next place.
+#[tactic(auto, using(crate::proofs::Laws::adding))]
 fn add(word: &[u8], out: &mut [u32], place: usize) -> usize
     requires { place ≤ length out.old }
     ensures { Wrote out.old out.new place result (take (length out.old - place) (numbers_of_word word.now)) }
 {
-    if word.len() == 0 {
-        return place;
+    if word.is_empty() || out.len() <= place {
+        place
+    } else {
+        words::put(out, place, number(word))
     }
-    if out.len() <= place {
-        return place;
-    }
-    words::put(out, place, number(word))
 }
 
 // Puts the numbers of a line into `out`, from its front on, as many as there is room for; how many these are.
@@ -86,6 +80,5 @@ pub fn numbers(line: &[u8], out: &mut [u32]) -> usize
 pub fn lesser(asked: u32, most: usize) -> usize
     ensures { result ≡ min asked most }
 {
-    let size = asked as usize;
-    if size < most { size } else { most }
+    (asked as usize).min(most)
 }

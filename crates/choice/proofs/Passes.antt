@@ -7,12 +7,14 @@ use Prim.Native.Nat.{ℕ, zero, suc, ◌+◌, ◌*◌, ◌≤◌, ◌<◌}
 use native.Mathlib.Omega.{arith}
 use lib.ListN.{length, drop, length-append, drop_of_length-le}
 use borrow.Author.Tests.{not-true}
+use Rattle.std.specs.Prelude.{Ok, Err}
 use Rattle.words.specs.Choice.{pick_true, pick_false}
 use Rattle.words.specs.Written.{Wrote}
 use Rattle.words.proofs.Laws.{Going, begin, go, done, last, second_room, both_done}
 use Rattle.meaning.specs.Alternative.{SeqAlt}
 use Rattle.meaning.specs.Listing.{word}
 use Rattle.meaning.specs.Refusals.{steps_fit}
+use Rattle.meaning.specs.declared.refusal.Refusal.TheVariants.{MisplacedEmpty}
 use Rattle.term.specs.declared.Kept.{Kept}
 use Rattle.term.specs.Keeping.{steps_of}
 use Rattle.outline.specs.Outline.{count_in}
@@ -28,7 +30,6 @@ use Rattle.alternative.proofs.Keeping.{few_to_keep, all_counted}
 use Rattle.alternative.proofs.Laws.{kept_registers, kept_stores, kept_fits, placed, next_in, kept_is_countable}
 use Rattle.choice.specs.RootText.{kept_root_text, kept_root_size}
 use Rattle.choice.specs.ChoiceWords.{root_text_in, all_registers, all_stores, closing, all_texts, match_words, choice_words, survey_from, survey_of, Numberable}
-use Rattle.choice.specs.declared.Survey.TheVariants.{Misplaced, Registers}
 use Rattle.choice.proofs.RootTexts.{kept_root_texts, kept_root_sizes}
 use Rattle.choice.proofs.Words.{as_long_all_stores, as_long_all_texts, length_of_a_choice, length_of_a_match}
 
@@ -59,7 +60,7 @@ surveying_begins t n work = record { few = omega arith; low = omega arith; long 
 
 module _ {t outline : List ℕ} {n len count total i : ℕ} {work : List ℕ} (K : Keepable t outline n 0 len) (e : count ≡ count_in outline n) (S : Surveying t n len work total i) where
   module _ {r : ℕ} {work₁ : List ℕ} {a : Kept} {fits : Bool} (h : i < count) (k : Keeps (chosen t n i) r work work₁ 0 a) (f : fits ≡ steps_fit (steps_of work₁ a)) where
-    pub survey_stops : not fits ≡ true → Misplaced i ≡ survey_of (alternatives_of t n)
+    pub survey_stops : not fits ≡ true → Err (MisplacedEmpty i) ≡ survey_of (alternatives_of t n)
     unfolding survey_from
     survey_stops q = sym (S.rest ∙ rw (here K e h) (pick_false _ _ (sym (f ∙ kept_fits k.holds) ∙ not-true fits q)))
 
@@ -72,7 +73,7 @@ module _ {t outline : List ℕ} {n len count total i : ℕ} {work : List ℕ} (K
       rest = S.rest ∙ rw (here K e h, o, kept_registers k.holds) (pick_true _ _ (sym (f ∙ kept_fits k.holds) ∙ q));
     }
 
-  pub survey_ends : count ≤ i → Registers total ≡ survey_of (alternatives_of t n)
+  pub survey_ends : count ≤ i → Ok total ≡ survey_of (alternatives_of t n)
   unfolding survey_from
   survey_ends h = sym (S.rest ∙ rw (none_left K e h) refl)
 
@@ -130,12 +131,11 @@ module _ {t outline : List ℕ} {n len count total i : ℕ} {work : List ℕ} (K
 
 -- The passes that write: r is the register at which the i-th alternative begins.
 pub record Numbering (t : List ℕ) (n first len : ℕ) (work : List ℕ) (r i : ℕ) : Type 0 where
-  pub few : i ≤ 256
   pub long : length work ≡ len
   pub registers : r + all_registers (drop i (alternatives_of t n)) ≡ first + all_registers (alternatives_of t n)
 
 numbering_begins : (t : List ℕ) (n first : ℕ) (work : List ℕ) → Numbering t n first (length work) work first 0
-numbering_begins t n first work = record { few = omega arith; long = refl; registers = refl }
+numbering_begins t n first work = record { long = refl; registers = refl }
 
 module _ {t outline : List ℕ} {n first len count r i : ℕ} {work work₁ : List ℕ} {a : Kept} (N : Numberable t outline n first len) (e : count ≡ count_in outline n)
     (P : Numbering t n first len work r i) (h : i < count) (k : Keeps (chosen t n i) r work work₁ 0 a) where
@@ -155,15 +155,12 @@ module _ {t outline : List ℕ} {n first len count r i : ℕ} {work work₁ : Li
   unfolding all_registers
   numbering_on f =
       let left = ap all_registers (here N.keepable e h) in
-      record { few = next_few N.keepable e h; long = k.long ∙ P.long; registers = omega (arith, P.registers, next_register f) }
+      record { long = k.long ∙ P.long; registers = omega (arith, P.registers, next_register f) }
 
 -- The third pass: the assignments of the alternatives that are left are still to be put.
 pub record Storing (t : List ℕ) (n first len : ℕ) (out₀ work out : List ℕ) (p r i : ℕ) : Type 0 where
   pub numbering : Numbering t n first len work r i
   pub going : Going out₀ 0 (all_stores (alternatives_of t n) first) out p (all_stores (drop i (alternatives_of t n)) r)
-
-pub storing_begins : (t : List ℕ) (n first : ℕ) (work out : List ℕ) → Storing t n first (length work) out work out 0 first 0
-storing_begins t n first work out = record { numbering = numbering_begins t n first work; going = begin out 0 _ }
 
 module _ {t outline : List ℕ} {n first len count p r i : ℕ} {out₀ work out : List ℕ} (N : Numberable t outline n first len) (e : count ≡ count_in outline n)
     (S : Storing t n first len out₀ work out p r i) where
@@ -230,9 +227,6 @@ module _ {t outline : List ℕ} {n first len count at p r i : ℕ} {out₀ work 
     only_the_match : Going out₀ at (match_words (alternatives_of t n) first) out p (word 14 0 ∷ [])
     unfolding all_texts
     only_the_match = rw (none_left N.keepable e h) at S.going
-
-    pub match_fits : at + length (match_words (alternatives_of t n) first) ≤ length out₀ → p < length out
-    match_fits room = omega (arith, room, only_the_match.place, only_the_match.long)
 
     pub joining_ends : {out₁ : List ℕ} {q : ℕ} → Wrote out out₁ p q (word 14 0 ∷ []) → Wrote out₀ out₁ at q (match_words (alternatives_of t n) first)
     joining_ends w = last only_the_match w

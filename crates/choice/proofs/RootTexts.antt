@@ -9,6 +9,7 @@ use mir.Val.{Fits}
 use lib.Dec.{eqb}
 use lib.ListN.{length, length-append}
 use borrow.Author.Tests.{eq-eqb, ne_eqb}
+use Rattle.std.specs.Prelude.{Option, Some, None}
 use Rattle.words.specs.Choice.{pick_true, pick_false, pick_case}
 use Rattle.words.specs.Written.{Wrote}
 use Rattle.meaning.specs.Expression.{Expr}
@@ -32,15 +33,13 @@ use Rattle.alternative.specs.Keeping.{Holds, kept_text, kept_size}
 use Rattle.alternative.proofs.Laws.{kept_many, kept_steps, kept_stores, kept_texts, few_stores, as_long_stores, as_long_a_text}
 use Rattle.choice.specs.RootText.{bool_of, lone_in, bare_or, kept_root_text, kept_root_size}
 use Rattle.choice.specs.ChoiceWords.{root_text_in}
-use Rattle.choice.specs.declared.Lone.{Lone}
-use Rattle.choice.specs.declared.Lone.TheVariants.{Atom, Other}
 
 -- An alternative that is a lone unguarded Bool, and which.
-lone_of : Guard → List SeqStep → Lone
-lone_of unguarded [] = Other
+lone_of : Guard → List SeqStep → Option ℕ
+lone_of unguarded [] = None
 lone_of unguarded (s ∷ []) = bool_of s.term
-lone_of unguarded (s ∷ t ∷ ss) = Other
-lone_of (guard x) ss = Other
+lone_of unguarded (s ∷ t ∷ ss) = None
+lone_of (guard x) ss = None
 
 module _ (r : ℕ) where
   lone_text : (g : Guard) (ss : List SeqStep) → expression_words (lone_or_pipeline g ss r).cur ≡ bare_or (lone_of g ss) (expression_words (synth_seq_pipeline g ss r).cur)
@@ -65,9 +64,9 @@ module _ (r : ℕ) where
 pub as_long_a_root_text : (y : SeqAlt) (r : ℕ) → length (root_text_in y r) ≡ length (root_text_in y 0)
 as_long_a_root_text y r = ap length (its_root_text r y) ∙ as_long (lone_of y.guard y.steps) ∙ sym (ap length (its_root_text 0 y))
   where
-    as_long : (l : Lone) → length (bare_or l (text_in y r)) ≡ length (bare_or l (text_in y 0))
-    as_long (Atom a) = refl
-    as_long Other = as_long_a_text y r
+    as_long : (l : Option ℕ) → length (bare_or l (text_in y r)) ≡ length (bare_or l (text_in y 0))
+    as_long (Some a) = refl
+    as_long None = as_long_a_text y r
 
 -- A guard has a closing word, if nothing else.
 a_guard_has_words : (x : Expr) → length (guard_words (guard x)) ≡ 0 → ⊥
@@ -86,7 +85,7 @@ module _ {W : List ℕ} {a : Kept} {r : ℕ} where
       ∙ ap (λ (s : SeqStep). bool_of s.term) (kept_steps H).0
   lone_kept unguarded (s ∷ t ∷ ss) H = pick_false _ _ (ne_eqb a.steps 1 (λ e. omega (arith, kept_many H)))
   lone_kept (guard x) ss H =
-      pick_case (λ (l : Lone). l ≡ Other) (eqb a.steps 1)
+      pick_case (λ (l : Option ℕ). l ≡ None) (eqb a.steps 1)
       (λ _. pick_false _ _ (ne_eqb a.guard a.end (λ e. a_guard_has_words x (omega (arith, guard_length H))))) (λ _. refl)
 
 module _ {W : List ℕ} {a : Kept} {y : SeqAlt} {r : ℕ} (H : Holds W a y r) where
@@ -98,22 +97,8 @@ module _ {W : List ℕ} {a : Kept} {y : SeqAlt} {r : ℕ} (H : Holds W a y r) wh
   unfolding kept_root_size
   kept_root_sizes = omega (arith, ap length (kept_stores H), ap length kept_root_texts, as_long_stores y r, as_long_a_root_text y r)
 
--- `lone_in`, by its tests.
-module _ (W : List ℕ) (a : Kept) where
-  pub lone_step : {s : SeqStep} {l : Lone} → a.steps ≡ 1 → a.guard ≡ a.end → s ≡ step_of W a 0 → l ≡ bool_of s.term → l ≡ lone_in W a
-  unfolding lone_in
-  lone_step e f q p = p ∙ rw q refl ∙ sym (pick_true _ _ (eq-eqb a.steps 1 e) ∙ pick_true _ _ (eq-eqb a.guard a.end f))
-
-  pub lone_but_guarded : a.steps ≡ 1 → (a.guard ≡ a.end → ⊥) → Other ≡ lone_in W a
-  unfolding lone_in
-  lone_but_guarded e f = sym (pick_true _ _ (eq-eqb a.steps 1 e) ∙ pick_false _ _ (ne_eqb a.guard a.end f))
-
-  pub several_steps : (a.steps ≡ 1 → ⊥) → Other ≡ lone_in W a
-  unfolding lone_in
-  several_steps e = sym (pick_false _ _ (ne_eqb a.steps 1 e))
-
 -- The atom that is told is that of the first term.
-atom_of : (x : SeqTerm) (b : ℕ) → bool_of x ≡ Atom b → term_atom x ≡ b
+atom_of : (x : SeqTerm) (b : ℕ) → bool_of x ≡ Some b → term_atom x ≡ b
 unfolding bool_of
 atom_of (BoolTerm a) b e = cc
 atom_of (Goto a k) b e = absurd (let z : ◌≡◌ {A = ℕ} 0 1 = cc in omega arith)
@@ -121,16 +106,16 @@ atom_of (Nonconsec a k) b e = absurd (let z : ◌≡◌ {A = ℕ} 0 1 = cc in om
 atom_of (ConsecAtLeast a k) b e = absurd (let z : ◌≡◌ {A = ℕ} 0 1 = cc in omega arith)
 atom_of Empty b e = absurd (let z : ◌≡◌ {A = ℕ} 0 1 = cc in omega arith)
 
-lone_atom : (W : List ℕ) (a : Kept) (b : ℕ) → lone_in W a ≡ Atom b → term_atom (step_of W a 0).term ≡ b
+lone_atom : (W : List ℕ) (a : Kept) (b : ℕ) → lone_in W a ≡ Some b → term_atom (step_of W a 0).term ≡ b
 unfolding lone_in
 lone_atom W a b e =
-    pick_case (λ (l : Lone). l ≡ Atom b → term_atom (step_of W a 0).term ≡ b) (eqb a.steps 1)
-    (λ _. pick_case (λ (l : Lone). l ≡ Atom b → term_atom (step_of W a 0).term ≡ b) (eqb a.guard a.end) (λ _ q. atom_of (step_of W a 0).term b q) (λ _ q. absurd (let z : ◌≡◌ {A = ℕ} 0 1 = cc in omega arith)))
+    pick_case (λ (l : Option ℕ). l ≡ Some b → term_atom (step_of W a 0).term ≡ b) (eqb a.steps 1)
+    (λ _. pick_case (λ (l : Option ℕ). l ≡ Some b → term_atom (step_of W a 0).term ≡ b) (eqb a.guard a.end) (λ _ q. atom_of (step_of W a 0).term b q) (λ _ q. absurd (let z : ◌≡◌ {A = ℕ} 0 1 = cc in omega arith)))
     (λ _ q. absurd (let z : ◌≡◌ {A = ℕ} 0 1 = cc in omega arith)) e
 
-module _ (W : List ℕ) (a : Kept) {l : Lone} (p : l ≡ lone_in W a) where
+module _ (W : List ℕ) (a : Kept) {l : Option ℕ} (p : l ≡ lone_in W a) where
   -- `root_text` and `root_size` of a bare atom.
-  module _ {b : ℕ} (e : l ≡ Atom b) where
+  module _ {b : ℕ} (e : l ≡ Some b) where
     bare_text : kept_root_text W a ≡ atom_word b ∷ []
     unfolding kept_root_text
     bare_text = rw (← p, e) refl
@@ -153,7 +138,7 @@ module _ (W : List ℕ) (a : Kept) {l : Lone} (p : l ≡ lone_in W a) where
     bare_small C q = rw q (omega (arith, few_stores C))
 
   -- `root_text` and `root_size` of what is no bare atom: the alternative's text.
-  module _ (e : l ≡ Other) where
+  module _ (e : l ≡ None) where
     other_text : kept_root_text W a ≡ kept_text W a
     unfolding kept_root_text
     other_text = rw (← p, e) refl
@@ -167,3 +152,5 @@ module _ (W : List ℕ) (a : Kept) {l : Lone} (p : l ≡ lone_in W a) where
     pub other_size : {z : Size} → z ≡ kept_size W a → z.stores + z.text ≡ kept_root_size W a
     unfolding kept_root_size kept_size
     other_size q = rw (other_text, q) refl
+
+pub ruleset root_sizes = (bare_size, bare_small, other_size)

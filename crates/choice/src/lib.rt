@@ -7,95 +7,73 @@
 
 ghost use Rattle.std.specs.Prelude.{◌≡◌, ◌+◌, ◌≤◌, length};
 ghost use Rattle.words.specs.Written.{Wrote};
-ghost use Rattle.term.specs.Keeping.{Whole};
 ghost use Rattle.expand.specs.ByNumber.{alternatives_of};
 ghost use Rattle.sizes.specs.Sizes.{Countable, most_words};
 ghost use Rattle.alternative.specs.Keeping.{Keepable, Ended};
 ghost use Rattle.choice.specs.RootText.{bool_of, lone_in, kept_root_text, kept_root_size};
 ghost use Rattle.choice.specs.ChoiceWords.{all_stores, closing, match_words, choice_words, survey_of, Numberable};
 
-use meaning::word;
-
-// What the first pass finds: the lowest alternative that 12 refuses, or the registers of all of them.
-#[derive(Clone, Copy)]
-pub enum Survey {
-    Misplaced(u32),
-    Registers(u64),
-}
-
-// Whether an alternative is a lone unguarded Bool, and which.
-#[derive(Clone, Copy)]
-pub enum Lone {
-    Atom(u32),
-    Other,
-}
+use meaning::{Refusal, word};
+use term::Alternative;
 
 // The atom of a Bool term.
-fn bool_of(x: meaning::SeqTerm) -> Lone
+#[tactic(auto, unfolding(crate::specs::RootText::bool_of))]
+fn bool_of(x: meaning::SeqTerm) -> Option<u32>
     ensures { result ≡ bool_of x }
 {
     match x {
-        meaning::SeqTerm::Bool(a) => Lone::Atom(a),
-        meaning::SeqTerm::Goto(_, _) => Lone::Other,
-        meaning::SeqTerm::Nonconsec(_, _) => Lone::Other,
-        meaning::SeqTerm::ConsecAtLeast(_, _) => Lone::Other,
-        meaning::SeqTerm::Empty => Lone::Other,
+        meaning::SeqTerm::Bool(a) => Some(a),
+        _ => None,
     }
 }
 
 // The atom of a kept alternative that is a lone unguarded Bool.
-fn lone_in(work: &[u32], kept: term::Kept) -> Lone
-    requires { Whole work.now kept }
-    ensures { result ≡ lone_in work.now kept }
+#[tactic(auto, unfolding(crate::specs::RootText::lone_in, words::specs::Choice::pick))]
+fn lone_in(y: Alternative<'_>) -> Option<u32>
+    ensures { result ≡ lone_in y.entry.work.now y.entry.kept }
 {
-    if kept.steps == 1 {
-        if kept.guard == kept.end {
-            let s = term::step(work, kept, 0);
-            let x = s.term;
-            return bool_of(x);
-        }
+    if y.kept.steps == 1 && y.kept.guard == y.kept.end {
+        return bool_of(y.step(0).term);
     }
-    Lone::Other
+    None
 }
 
 // Puts the match of a kept alternative at the root: the bare atom, or the alternative's text. `next` is the register after its last.
-fn root_text(work: &[u32], kept: term::Kept, next: u32, out: &mut [u32], at: usize) -> usize
-    requires { Ended work.now kept next × (at + length (kept_root_text work.now kept) ≤ length out.old) }
-    ensures { Wrote out.old out.new at result (kept_root_text work.now kept) }
+fn root_text(y: Alternative<'_>, next: u32, out: &mut [u32], at: usize) -> usize
+    requires { Ended y.work.now y.kept next × (at + length (kept_root_text y.work.now y.kept) ≤ length out.old) }
+    ensures { Wrote out.old out.new at result (kept_root_text y.entry.work.now y.entry.kept) }
 {
-    let lone = lone_in(work, kept);
-    let Lone::Atom(a) = lone else {
-        return alternative::text(work, kept, next, out, at);
-    };
-    words::put(out, at, word::ATOM + a)
+    match lone_in(y) {
+        Some(a) => words::put(out, at, word::ATOM + a),
+        None => alternative::text(y, next, out, at),
+    }
 }
 
 // How many words a kept alternative takes at the root: its assignments and its match there.
-fn root_size(work: &[u32], kept: term::Kept) -> u64
-    requires { Countable work.now kept }
-    ensures value { result ≡ kept_root_size work.now kept }
+#[tactic(auto, using(crate::proofs::RootTexts::root_sizes))]
+fn root_size(y: Alternative<'_>) -> u64
+    requires { Countable y.work.now y.kept }
+    ensures value { result ≡ kept_root_size y.entry.work.now y.entry.kept }
     ensures small { result ≤ most_words }
 {
-    let z = alternative::size(work, kept);
-    let lone = lone_in(work, kept);
-    let Lone::Atom(_) = lone else {
-        return z.stores + z.text;
-    };
-    z.stores + 1
+    let z = alternative::size(y);
+    match lone_in(y) {
+        Some(_) => z.stores + 1,
+        None => z.stores + z.text,
+    }
 }
 
 // How many words stand behind the i-th text of so many.
+#[tactic(auto, unfolding(crate::specs::ChoiceWords::closing, words::specs::Choice::pick))]
 fn closing_length(count: u32, i: u32) -> u64
     ensures value { result ≡ length (closing count i) }
     ensures small { result ≤ 2 }
 {
-    if count == 1 {
-        return 0;
+    match (count, i) {
+        (1, _) => 0,
+        (_, 0) => 1,
+        _ => 2,
     }
-    if i == 0 {
-        return 1;
-    }
-    2
 }
 
 // Puts the words behind the i-th text of so many, which join it to the texts before.
@@ -103,33 +81,30 @@ fn close(count: u32, i: u32, out: &mut [u32], at: usize) -> usize
     requires { at + length (closing count i) ≤ length out.old }
     ensures { Wrote out.old out.new at result (closing count i) }
 {
-    if count == 1 {
-        return at;
+    match (count, i) {
+        (1, _) => at,
+        (_, 0) => words::put(out, at, word::ANY),
+        _ => words::copied(&[word::ANY, word::OR], out, at),
     }
-    let p = words::put(out, at, word::ANY);
-    if i == 0 {
-        return p;
-    }
-    words::put(out, p, word::OR)
 }
 
-// The first pass: refusal 12, or all registers.
-pub fn surveyed(t: &[u32], outline: &[u32], n: u32, work: &mut [u32]) -> Survey
+// The passes have only `for` and `keep` in common: a closure for the rest would say in clauses of its own what it adds or writes.
+
+// The first pass: refusal 12 of the lowest alternative that it falls on, or the registers of all of them.
+pub fn surveyed(t: &[u32], outline: &[u32], n: u32, work: &mut [u32]) -> Result<u64, Refusal>
     requires { Keepable t.now outline.now n 0 (length work.old) }
     ensures { result ≡ survey_of (alternatives_of t.now n) }
 {
-    let count = outline::count_of(outline, n);
-    let mut total: u64 = 0;
-    let mut i = 0;
-    while i < count {
+    let mut total = 0;
+    for i in 0..outline::count_of(outline, n) {
         let kept = alternative::keep(t, outline, n, i, 0, work, 0);
-        if !pipeline::steps_fit(work, kept) {
-            return Survey::Misplaced(i);
+        let y = Alternative { work, kept };
+        if !pipeline::steps_fit(y) {
+            return Err(Refusal::MisplacedEmpty(i));
         }
-        total += alternative::registers(work, kept);
-        i += 1;
+        total += alternative::registers(y);
     }
-    Survey::Registers(total)
+    Ok(total)
 }
 
 // The second pass: how many words there are, in 64 bits. They are as many from any register on.
@@ -138,12 +113,11 @@ pub fn word_count(t: &[u32], outline: &[u32], n: u32, work: &mut [u32]) -> u64
     ensures { result ≡ length (choice_words (alternatives_of t.now n) 0) }
 {
     let count = outline::count_of(outline, n);
-    let mut total: u64 = 1;
-    let mut i = 0;
-    while i < count {
+    let mut total = 1;
+    for i in 0..count {
         let kept = alternative::keep(t, outline, n, i, 0, work, 0);
-        total += root_size(work, kept) + closing_length(count, i);
-        i += 1;
+        let y = Alternative { work, kept };
+        total += root_size(y) + closing_length(count, i);
     }
     total
 }
@@ -160,15 +134,13 @@ fn put_stores(
     requires { Numberable t.now outline.now n first (length work.old) × (length (all_stores (alternatives_of t.now n) first) ≤ length out.old) }
     ensures { Wrote out.old out.new 0 result (all_stores (alternatives_of t.now n) first) }
 {
-    let count = outline::count_of(outline, n);
     let mut p = 0;
     let mut r = first;
-    let mut i = 0;
-    while i < count {
+    for i in 0..outline::count_of(outline, n) {
         let kept = alternative::keep(t, outline, n, i, r, work, 0);
-        p = pipeline::stores(work, kept, out, p);
-        r = alternative::next_register(work, kept);
-        i += 1;
+        let y = Alternative { work, kept };
+        p = pipeline::stores(y, out, p);
+        r = alternative::next_register(y);
     }
     p
 }
@@ -189,14 +161,13 @@ fn put_match(
     let count = outline::count_of(outline, n);
     let mut p = at;
     let mut r = first;
-    let mut i = 0;
-    while i < count {
+    for i in 0..count {
         let kept = alternative::keep(t, outline, n, i, r, work, 0);
-        let next = alternative::next_register(work, kept);
-        p = root_text(work, kept, next, out, p);
+        let y = Alternative { work, kept };
+        let next = alternative::next_register(y);
+        p = root_text(y, next, out, p);
         p = close(count, i, out, p);
         r = next;
-        i += 1;
     }
     words::put(out, p, word::MATCH)
 }

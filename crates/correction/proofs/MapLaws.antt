@@ -1,6 +1,7 @@
 -- Laws of the map, as the code meets them: whether it is in order, and that one look at a map in order finds whether it
 -- names a pixel. They assume nothing.
 use mathlib.Core.Path.{◌≡◌, refl, sym, ap, ◌∙◌}
+use Rattle.std.specs.Prelude.{Some, None}
 use mathlib.Core.Bool.{true, false}
 use mathlib.Core.List.{List, [], ◌∷◌}
 use Prim.Native.Nat.{ℕ, zero, suc, ◌+◌, ◌-◌, ◌*◌, ◌/◌, ◌%◌, ◌≤◌, ◌<◌}
@@ -54,7 +55,7 @@ ordered_later from entry map o n =
 
 module _ {map : List ℕ} {reached row column : ℕ} (h : column < 752) (R : Reached map reached (row * 752 + column)) where
   -- No entry is left.
-  pub at_the_end : length map ≤ reached → LookedUp map row column (record { named = false; reached = reached })
+  pub at_the_end : length map ≤ reached → LookedUp map reached row column None
   unfolding names ordered
   at_the_end k =
       let e : drop reached map ≡ [] = drop_of_length-le map k in
@@ -65,7 +66,7 @@ module _ {map : List ℕ} {reached row column : ℕ} (h : column < 752) (R : Rea
 
   -- The next entry is another pixel's.
   pub at_another : {entry : ℕ} → reached < length map → entry ≡ entry_of row column → (get_or map reached 0 ≡ entry → ⊥)
-      → LookedUp map row column (record { named = false; reached = reached })
+      → LookedUp map reached row column None
   unfolding names
   at_another k e n =
       let here = get_or map reached 0 in
@@ -86,7 +87,7 @@ module _ {map : List ℕ} {reached row column : ℕ} (h : column < 752) (R : Rea
 
   -- The next entry is the pixel's.
   pub at_its_entry : {entry : ℕ} → reached < length map → entry ≡ entry_of row column → get_or map reached 0 ≡ entry
-      → LookedUp map row column (record { named = true; reached = reached + 1 })
+      → LookedUp map reached row column (Some (reached + 1))
   unfolding names
   at_its_entry k e q =
       let here = get_or map reached 0 in

@@ -1,16 +1,16 @@
 -- Laws of the rows, as the code meets them: the pixel of a tick leaves, and the rows keep it, as the definitions say. They
 -- assume nothing.
 use mathlib.Core.Path.{◌≡◌, refl, sym, ap, ◌∙◌}
-use mathlib.Core.Bool.{true, false, not}
+use Rattle.std.specs.Prelude.{Option, Some, None}
+use mathlib.Core.Bool.{true, false}
 use mathlib.Core.List.{List}
 use Prim.Native.Nat.{ℕ, ◌+◌, ◌-◌, ◌*◌, ◌/◌, ◌≤◌, ◌<◌}
 use native.Mathlib.Omega.{arith}
 use lib.ListN.{length, set, length-set}
-use borrow.Author.Tests.{lt-ltb, le-ltb, not-true, not-false}
+use borrow.Author.Tests.{lt-ltb, le-ltb}
 use Rattle.words.specs.Choice.{pick_true, pick_false, pick_case}
-use Rattle.correction.specs.Map.{names, Reached, LookedUp}
+use Rattle.correction.specs.Map.{names, Reached, reached_after, LookedUp}
 use Rattle.correction.specs.Rows.{row_of, column_of, place_of, pixel_at, replacement_by, leaving_of, rows_after, Left, Stepped}
-use Rattle.correction.specs.declared.Found.{Found}
 use Rattle.correction.specs.declared.Output.{Output}
 use Rattle.correction.specs.declared.Leaving.TheVariants.{Nothing, Kept, Replaced}
 
@@ -23,25 +23,24 @@ module _ {map : List ℕ} {row column : ℕ} (tick : ℕ) (r : row ≡ row_of ti
   pub reached_by_its_tick : {reached : ℕ} → Reached map reached tick → Reached map reached (row * 752 + column)
   reached_by_its_tick R = let e : row * 752 + column ≡ tick = omega arith in rw e R
 
-  same_tick : {found : Found} → LookedUp map row column found → Reached map found.reached (tick + 1)
+  same_tick : {reached : ℕ} {found : Option ℕ} → LookedUp map reached row column found → Reached map (reached_after reached found) (tick + 1)
   same_tick L = let e : row * 752 + column + 1 ≡ tick + 1 = omega arith in rw e at L.after
 
   -- The map does not name the pixel.
-  pub leaves_as_it_came : {rows : List ℕ} {found : Found} {p : ℕ}
-      → LookedUp map row column found → not found.named ≡ true → p ≡ pixel_at rows tick
-      → Left map rows rows tick (record { leaving = Kept p; reached = found.reached })
+  pub leaves_as_it_came : {rows : List ℕ} {reached p : ℕ} → LookedUp map reached row column None → p ≡ pixel_at rows tick
+      → Left map rows rows tick (record { leaving = Kept p; reached = reached })
   unfolding leaving_of rows_after
-  leaves_as_it_came {rows} {found} L n e =
-      let no : names map (row_of tick) (column_of tick) ≡ false = rw (r, c) at (sym L.says ∙ not-true found.named n) in
+  leaves_as_it_came {rows} L e =
+      let no : names map (row_of tick) (column_of tick) ≡ false = rw (r, c) at (sym L.says) in
       record { leaves = sym (pick_false _ _ no ∙ ap Kept (sym e)); keeps = sym (pick_false _ _ no); reaches = same_tick L }
 
   -- The map names the pixel.
-  pub leaves_replaced : {rows : List ℕ} {found : Found} {p place : ℕ} → LookedUp map row column found → not found.named ≡ false
+  pub leaves_replaced : {rows : List ℕ} {reached after p place : ℕ} → LookedUp map reached row column (Some after)
       → p ≡ replacement_by rows tick row column → place ≡ place_of tick
-      → Left map rows (set rows place p) tick (record { leaving = Replaced p; reached = found.reached })
+      → Left map rows (set rows place p) tick (record { leaving = Replaced p; reached = after })
   unfolding leaving_of rows_after
-  leaves_replaced {rows} {found} {p} L n e f =
-      let yes : names map (row_of tick) (column_of tick) ≡ true = rw (r, c) at (sym L.says ∙ not-false found.named n) in
+  leaves_replaced {rows} {p = p} L e f =
+      let yes : names map (row_of tick) (column_of tick) ≡ true = rw (r, c) at (sym L.says) in
       let q : p ≡ replacement_by rows tick (row_of tick) (column_of tick) = rw (r, c) at e in
       record {
         leaves = sym (pick_true _ _ yes ∙ ap Replaced (sym q));

@@ -1,8 +1,7 @@
 -- The bad pixel map: one word a pixel, its row times 65,536 plus its column, in the order in which the pixels come in.
 -- Example: `names (65538 ∷ []) 1 2` is true and `names (65538 ∷ []) 2 1` is false.
-use Rattle.std.specs.Prelude.{◌≡◌, Bool, true, false, List, [], ◌∷◌, ℕ, ◌+◌, ◌*◌, ◌/◌, ◌%◌, ◌≤◌, ◌<◌, eqb, ltb, leb, length, drop}
+use Rattle.std.specs.Prelude.{◌≡◌, Option, Some, None, is_some, Bool, true, false, List, [], ◌∷◌, ℕ, ◌+◌, ◌*◌, ◌/◌, ◌%◌, ◌≤◌, ◌<◌, eqb, ltb, leb, length, drop}
 use Rattle.words.specs.Choice.{pick}
-use Rattle.correction.specs.declared.Found.{Found}
 
 -- The word of a pixel.
 abbrev pub entry_of : ℕ → ℕ → ℕ
@@ -29,7 +28,12 @@ pub record Reached (map : List ℕ) (reached tick : ℕ) : Type 0 where
   pub ahead : ordered tick (drop reached map) ≡ true
   pub behind : (row column : ℕ) → column < 752 → tick ≤ row * 752 + column → names map row column ≡ names (drop reached map) row column
 
+-- What is reached after a lookup: as much as it found, where the map names the pixel, and else as before.
+abbrev pub reached_after : ℕ → Option ℕ → ℕ
+reached_after before (Some after) = after
+reached_after before None = before
+
 -- A lookup says whether the map names the row and column, and what is reached after that pixel.
-pub record LookedUp (map : List ℕ) (row column : ℕ) (found : Found) : Type 0 where
-  pub says : found.named ≡ names map row column
-  pub after : Reached map found.reached (row * 752 + column + 1)
+pub record LookedUp (map : List ℕ) (reached row column : ℕ) (found : Option ℕ) : Type 0 where
+  pub says : is_some found ≡ names map row column
+  pub after : Reached map (reached_after reached found) (row * 752 + column + 1)

@@ -36,13 +36,6 @@ pub struct Output {
     pub reached: usize,
 }
 
-// Whether the map names a pixel, and how many entries were reached after it.
-#[derive(Clone, Copy)]
-pub struct Found {
-    pub named: bool,
-    pub reached: usize,
-}
-
 // The word that names a pixel.
 pub fn entry_of(row: u32, column: u32) -> u32
     requires { (row < 65536) × (column < 65536) }
@@ -77,9 +70,7 @@ pub fn in_order(map: &[u32]) -> bool
     ensures { result ≡ ordered 0 map.now }
 {
     let mut from = 0;
-    let mut i = 0;
-    while i < map.len() {
-        let entry = map[i];
+    for &entry in map {
         if COLUMNS <= entry % 65536 {
             return false;
         }
@@ -88,32 +79,20 @@ pub fn in_order(map: &[u32]) -> bool
             return false;
         }
         from = tick + 1;
-        i += 1;
     }
     true
 }
 
-// Whether the map names the pixel of a row and a column: the entry that was not reached yet is its word, or none is.
-fn lookup(map: &[u32], reached: usize, row: u32, column: u32) -> Found
+// How many entries are reached with the pixel of a row and a column, where the map names it: the entry that was not reached yet is its word, or
+// none is.
+fn lookup(map: &[u32], reached: usize, row: u32, column: u32) -> Option<usize>
     requires { (row < 65536) × (column < 752) × (Reached map.now reached (row * 752 + column)) }
-    ensures { LookedUp map.now row column result }
+    ensures { LookedUp map.now reached row column result }
 {
-    if map.len() <= reached {
-        return Found {
-            named: false,
-            reached,
-        };
+    if reached < map.len() && map[reached] == entry_of(row, column) {
+        return Some(reached + 1);
     }
-    if map[reached] != entry_of(row, column) {
-        return Found {
-            named: false,
-            reached,
-        };
-    }
-    Found {
-        named: true,
-        reached: reached + 1,
-    }
+    None
 }
 
 // Where the pixel of a tick stands in the two rows.
@@ -123,17 +102,11 @@ fn place(tick: u32) -> usize
     (tick % TWO_ROWS) as usize
 }
 
-fn wide(x: u8) -> u32
-    ensures { (result ≡ x) × (result < 256) }
-{
-    x as u32
-}
-
 // The mean of two pixels, rounded down.
 pub fn mean(x: u8, y: u8) -> u8
     ensures { result ≡ (x + y) / 2 }
 {
-    ((wide(x) + wide(y)) / 2) as u8
+    ((u32::from(x) + u32::from(y)) / 2) as u8
 }
 
 // What the rows hold for the pixel of a tick.
@@ -146,6 +119,7 @@ fn kept(rows: &[u8], tick: u32) -> u8
 
 // What replaces the pixel of a tick: the mean of its neighbour in the row and of the pixel above it, as they left; at the
 // frame's edge the one of the two that is there; in the first corner 0.
+#[tactic(auto, using(words::specs::Choice::tests, crate::proofs::RowLaws::mean_of), unfolding(crate::specs::Rows::replacement_by))]
 fn replacement(rows: &[u8], tick: u32, row: u32, column: u32) -> u8
     requires { (length rows.now ≡ 1504) × (row ≡ row_of tick) × (column ≡ column_of tick) }
     ensures { result ≡ replacement_by rows.now tick row column }
@@ -169,18 +143,17 @@ fn leave(map: &[u32], rows: &mut [u8], tick: u32, reached: usize) -> Output
 {
     let row = row_of(tick);
     let column = column_of(tick);
-    let found = lookup(map, reached, row, column);
-    if !found.named {
+    let Some(after) = lookup(map, reached, row, column) else {
         return Output {
             leaving: Leaving::Kept(kept(rows, tick)),
-            reached: found.reached,
+            reached,
         };
-    }
+    };
     let pixel = replacement(rows, tick, row, column);
     rows[place(tick)] = pixel;
     Output {
         leaving: Leaving::Replaced(pixel),
-        reached: found.reached,
+        reached: after,
     }
 }
 

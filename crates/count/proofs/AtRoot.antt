@@ -6,19 +6,18 @@ use mathlib.Core.List.{List}
 use Prim.Native.Nat.{ℕ, ◌+◌, ◌*◌, ◌-◌, ◌≤◌, ◌<◌}
 use native.Mathlib.Omega.{arith}
 use lib.ListN.{length}
+use Rattle.std.specs.Prelude.{Result, Ok, Err}
+use Rattle.meaning.specs.declared.refusal.Refusal.{Refusal}
 use Rattle.meaning.specs.Tree.{node_at, tree_at, nodes, below, root}
 use Rattle.meaning.specs.Alternative.{SeqAlt, expand}
 use Rattle.meaning.specs.Refusals.{entries, counts, and_then, walk, pair_counts, limited_within, walk_root, room_of}
 use Rattle.meaning.specs.Lowerable.{WellFormed, FormedTable}
 use Rattle.meaning.specs.declared.Node.{Node}
 use Rattle.meaning.specs.declared.Counts.{Counts}
-use Rattle.meaning.specs.declared.Walked.{Walked}
-use Rattle.meaning.specs.declared.Walked.TheVariants.{Counted, Refused}
 use Rattle.meaning.proofs.Members.{below_is_one_less}
 use Rattle.meaning.proofs.Ranges.{by_kind}
 use Rattle.meaning.proofs.Walks.{the_walk_counts_the_expansion, room_is_small}
-use Rattle.outline.specs.Outline.{WhereCounted, Notes, KnownRoot}
-use Rattle.outline.proofs.Laws.{counted}
+use Rattle.outline.specs.Outline.{Notes}
 use Rattle.outline.proofs.ByWords.{well_formed, is_atom, is_delay, is_consec, is_goto, is_nonconsec, is_throughout, is_within}
 use Rattle.outline.proofs.Noting.{still_known}
 use Rattle.count.specs.Nodes.{Countable, IsWithin, OperandsKnown, limit, paired}
@@ -45,15 +44,6 @@ no_within {t} {n} room F inside f =
 -- ---- `walked_within`: v are the root's words, x and y the answers of its operands
 
 module _ {t : List ℕ} {n room : ℕ} (I : IsWithin t n room) where
-  pub within_inside : n * 5 + 5 ≤ length t
-  within_inside = omega (arith, I.formed.whole, I.inside)
-
-  pub within_few : n < 4096
-  within_few = omega (arith, I.formed.few, I.inside)
-
-  pub room_enough : room ≤ 65536
-  room_enough = I.rooms
-
   module _ {v : Node} (w : v ≡ node_at t n) where
     words : WellFormed n v
     words = well_formed I.formed I.inside w
@@ -61,34 +51,24 @@ module _ {t : List ℕ} {n room : ℕ} (I : IsWithin t n room) where
     kind : v.kind ≡ 7
     kind = rw w I.kind
 
-    -- The operands of a within may be walked.
-    countable : (k : ℕ) → k < n → Countable t k room 1
-    countable k l = record { formed = I.formed; inside = omega (arith, I.inside); rooms = I.rooms; deep = omega arith }
-
-    pub one_countable : Countable t v.p room 1
-    one_countable = countable _ (words.within_one kind)
-
-    pub two_countable : Countable t v.q room 1
-    two_countable = countable _ (words.within_two kind)
-
     -- seq1, then seq2, then the pairs.
     within_walk : walk_root room (tree_at t n) ≡ and_then (walk room 1 (tree_at t v.p)) (and_then (walk room 1 (tree_at t v.q)) (limited_within room n (expand (tree_at t v.p)) (expand (tree_at t v.q))))
     unfolding walk_root
     within_walk = rw (is_within I.formed I.inside w kind) refl
 
-    module _ {x : Walked} (a : x ≡ walk room 1 (tree_at t v.p)) where
+    module _ {x : Result Counts Refusal} (a : x ≡ walk room 1 (tree_at t v.p)) where
       -- A refusal in seq1, or in seq2, is the answer.
-      pub one_refused : {number place : ℕ} → x ≡ Refused number place → x ≡ walk_root room (tree_at t n)
+      pub one_refused : {why : Refusal} → x ≡ Err why → Err why ≡ walk_root room (tree_at t n)
       unfolding and_then
-      one_refused q = q ∙ sym (within_walk ∙ rw (sym a ∙ q) refl)
+      one_refused q = sym (within_walk ∙ rw (sym a ∙ q) refl)
 
-      module _ {c : Counts} {y : Walked} (q : x ≡ Counted c) (b : y ≡ walk room 1 (tree_at t v.q)) where
-        pub two_refused : {number place : ℕ} → y ≡ Refused number place → y ≡ walk_root room (tree_at t n)
+      module _ {c : Counts} {y : Result Counts Refusal} (q : x ≡ Ok c) (b : y ≡ walk room 1 (tree_at t v.q)) where
+        pub two_refused : {why : Refusal} → y ≡ Err why → Err why ≡ walk_root room (tree_at t n)
         unfolding and_then
-        two_refused q' = q' ∙ sym (within_walk ∙ rw (sym a ∙ q, sym b ∙ q') refl)
+        two_refused q' = sym (within_walk ∙ rw (sym a ∙ q, sym b ∙ q') refl)
 
         -- Where neither operand is refused, 9, 10 and 11 of the root are the answer.
-        pub within_done : {c' : Counts} {z : Walked} → y ≡ Counted c' → z ≡ paired room n c c' → z ≡ walk_root room (tree_at t n)
+        pub within_done : {c' : Counts} {z : Result Counts Refusal} → y ≡ Ok c' → z ≡ paired room n c c' → z ≡ walk_root room (tree_at t n)
         unfolding and_then
         within_done {c'} q' u =
             let one = the_walk_counts_the_expansion room 1 (tree_at t v.p) c (sym a ∙ q) in
@@ -98,11 +78,8 @@ module _ {t : List ℕ} {n room : ℕ} (I : IsWithin t n room) where
             u ∙ decided ∙ sym (within_walk ∙ rw (sym a ∙ q, sym b ∙ q') refl)
 
     -- The words of both operands are noted.
-    pub operands_known : {x y : Walked} {c c' : Counts} {o o₁ o₂ : List ℕ} (z : Walked) → x ≡ Counted c → WhereCounted x (Notes t v.p o o₁)
-        → y ≡ Counted c' → WhereCounted y (Notes t v.q o₁ o₂) → WhereCounted z (OperandsKnown t o₂ n)
-    operands_known z q N q' N' = record {
-      holds = λ _ _. record { one = rw (← w) (still_known (counted q N).known (counted q' N')); two = rw (← w) (counted q' N').known };
-    }
+    pub operands_known : {o o₁ o₂ : List ℕ} → Notes t v.p o o₁ → Notes t v.q o₁ o₂ → OperandsKnown t o₂ n
+    operands_known N N' = record { one = rw (← w) (still_known N.known N'); two = rw (← w) N'.known }
 
 -- ---- `walked_root`
 
@@ -125,28 +102,7 @@ module _ (t : List ℕ) (work : ℕ) {room : ℕ} (F : FormedTable t) (e : room 
     pub root_within : v.kind ≡ 7 → IsWithin t (nodes t - 1) room
     root_within k = record { formed = F; inside = inside; rooms = small; kind = rw (← w) k }
 
-    pub within_root_done : {z : Walked} → z ≡ walk_root room (tree_at t (nodes t - 1)) → z ≡ walk_root (room_of work) (root t)
-    within_root_done q = q ∙ rw (e, root_is) refl
-
-    pub within_root_known : {z : Walked} {o : List ℕ} → v.kind ≡ 7 → WhereCounted z (OperandsKnown t o (nodes t - 1)) → WhereCounted z (KnownRoot t o)
-    within_root_known k K = record {
-      holds = λ c q. record {
-        whole = λ f. absurd (f (rw (root_is, ← w) k));
-        one = λ _. rw root_is (K.holds c q).one;
-        two = λ _. rw root_is (K.holds c q).two;
-      };
-    }
-
     -- Any other root than a within.
     module _ (f : v.kind ≡ 7 → ⊥) where
-      pub other_root_done : {z : Walked} → z ≡ walk room 1 (tree_at t (nodes t - 1)) → z ≡ walk_root (room_of work) (root t)
+      pub other_root_done : {z : Result Counts Refusal} → z ≡ walk room 1 (tree_at t (nodes t - 1)) → z ≡ walk_root (room_of work) (root t)
       other_root_done q = q ∙ rw (root_is, ← e) (sym (no_within room F inside (rw w at f)))
-
-      pub other_root_known : {z : Walked} {o o' : List ℕ} → WhereCounted z (Notes t (nodes t - 1) o o') → WhereCounted z (KnownRoot t o')
-      other_root_known N = record {
-        holds = λ c q. record {
-          whole = λ _. rw root_is (N.holds c q).known;
-          one = λ k. absurd (f (rw (root_is, ← w) at k));
-          two = λ k. absurd (f (rw (root_is, ← w) at k));
-        };
-      }

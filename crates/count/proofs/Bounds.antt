@@ -1,16 +1,13 @@
--- Capped counts are small, and what the code computes of small ones fits 64 bits. Assumes nothing.
+-- Capped counts are small, however they are joined. Assumes nothing.
 use mathlib.Core.Path.{◌≡◌, refl}
 use mathlib.Core.Bool.{Bool}
 use Prim.Native.Nat.{ℕ, zero, suc, ◌+◌, ◌*◌, ◌≤◌}
-use native.Mathlib.Nat.{mul-le-mul}
 use native.Mathlib.Omega.{arith}
 use lib.Dec.{ltb}
 use borrow.Author.Tests.{ltb-false, le-ltb}
-use mir.Val.{Fits}
-use mir.Syntax.{w64}
 use Rattle.words.specs.Choice.{pick, pick_case}
 use Rattle.meaning.specs.declared.Counts.{Counts}
-use Rattle.count.specs.Capped.{neutral, capped, Small, product, sum, copied, summed}
+use Rattle.count.specs.Capped.{nothing, neutral, capped, Small, product, sum, copied, summed}
 
 -- Whatever the numbers were.
 capped_is_small : (a e : ℕ) (plain guarded : Bool) → Small (capped a e plain guarded)
@@ -49,34 +46,9 @@ unfolding summed
 summed_small base total copies zero s = s
 summed_small base total copies (suc count) s = summed_small base (sum total copies) (product copies base) count (sum_is_small total copies refl)
 
--- What the code names as copies is small.
-pub copied_is_small : (base : Counts) (k : ℕ) {c : Counts} → Small base → c ≡ copied base base k → Small c
-copied_is_small base k s e = rw e (copied_small base base k s)
+-- The copies that the code makes, and their sum.
+pub copied_is_small : (base : Counts) (k : ℕ) → Small base → Small (copied base base k)
+copied_is_small base k s = copied_small base base k s
 
--- What the code names as the sum of copies is small.
-pub summed_is_small : (base total first : Counts) (count : ℕ) {c : Counts} → Small total → c ≡ summed base total first count → Small c
-summed_is_small base total first count s e = rw e (summed_small base total first count s)
-
--- The products of small counts fit 64 bits.
-module _ (l r : Counts) (s : Small l) (q : Small r) where
-  pub pairs_fit : Fits w64 (l.alternatives * r.alternatives)
-  pairs_fit = let p : l.alternatives * r.alternatives ≤ 257 * 257 = mul-le-mul s.few q.few in omega arith
-
-  pub left_entries_fit : Fits w64 (l.entries * r.alternatives)
-  left_entries_fit = let p : l.entries * r.alternatives ≤ 65537 * 257 = mul-le-mul s.short q.few in omega arith
-
-  pub right_entries_fit : Fits w64 (l.alternatives * r.entries)
-  right_entries_fit = let p : l.alternatives * r.entries ≤ 257 * 65537 = mul-le-mul s.few q.short in omega arith
-
-  pub entries_fit : Fits w64 (l.entries * r.alternatives + l.alternatives * r.entries)
-  entries_fit =
-      let p : l.entries * r.alternatives ≤ 65537 * 257 = mul-le-mul s.short q.few in
-      let p' : l.alternatives * r.entries ≤ 257 * 65537 = mul-le-mul s.few q.short in omega arith
-
--- The multiples of small counts by 2^32 hops fit 64 bits.
-module _ (hops : ℕ) (c : Counts) (h : hops ≤ 4294967296) (s : Small c) where
-  pub alternatives_of_hops_fit : Fits w64 (hops * c.alternatives)
-  alternatives_of_hops_fit = let p : hops * c.alternatives ≤ 4294967296 * 257 = mul-le-mul h s.few in omega arith
-
-  pub entries_of_hops_fit : Fits w64 (hops * c.entries)
-  entries_of_hops_fit = let p : hops * c.entries ≤ 4294967296 * 65537 = mul-le-mul h s.short in omega arith
+pub summed_is_small : (base first : Counts) (count : ℕ) → Small (summed base nothing first count)
+summed_is_small base first count = summed_small base nothing first count (record { few = omega arith; short = omega arith })

@@ -9,29 +9,29 @@ use native.Mathlib.Decide.{ℕ_discrete}
 use lib.ListN.{length}
 use borrow.Author.Tests.{eq-eqb, ne_eqb}
 use Rattle.words.specs.Choice.{pick_true, pick_false}
+use Rattle.std.specs.Prelude.{Result, Ok, Err, OnOk}
+use Rattle.meaning.specs.declared.refusal.Refusal.{Refusal}
 use Rattle.meaning.specs.Tree.{node_at, tree_at, nodes}
 use Rattle.meaning.specs.Refusals.{and_then, walk}
 use Rattle.meaning.specs.declared.Node.{Node}
 use Rattle.meaning.specs.declared.Counts.{Counts}
-use Rattle.meaning.specs.declared.Walked.{Walked}
-use Rattle.meaning.specs.declared.Walked.TheVariants.{Counted, Refused}
-use Rattle.outline.specs.Outline.{is_repeated, bare, noted, WhereCounted, Known, Notes}
-use Rattle.outline.proofs.Laws.{Repetition, counted}
+use Rattle.outline.specs.Outline.{is_repeated, bare, noted, Known, Notes}
+use Rattle.outline.proofs.Laws.{Repetition}
 use Rattle.outline.proofs.ByWords.{is_delay, is_finite, is_throughout}
 use Rattle.outline.proofs.Readers.{bare_known}
 use Rattle.outline.proofs.Noting.{alone, alone_notes, delay_notes, throughout_notes, repeated_notes}
 use Rattle.count.specs.Capped.{neutral, Small, product}
-use Rattle.count.specs.Nodes.{Countable, Answerable, limit, delay_counts, repeated, covered, unvisited, unrepeated, answer, left_of, visits, operand_at}
+use Rattle.count.specs.Nodes.{Countable, limit, delay_counts, repeated, covered, unvisited, unrepeated, answer, left_of, visits, operand_at}
 use Rattle.count.proofs.Bounds.{product_is_small}
 use Rattle.count.proofs.NotVisited.{not_visited_walk}
-use Rattle.count.proofs.Walking.{Visiting, both, covered_one, repeated_one, none, visiting, words, operand_expandable, operand_alone, delay_walk, delay_decided, throughout_walk, throughout_decided, repetition_walk, repetition_decided}
+use Rattle.count.proofs.Walking.{where_counted, Visiting, both, covered_one, repeated_one, none, visiting, words, operand_expandable, operand_alone, delay_walk, delay_decided, throughout_walk, throughout_decided, repetition_walk, repetition_decided}
 
 -- Of the node with the words v, k operands were walked: their counts, joined, are c, and their words stand in o', before which there was o.
 pub data Joined (t : List ℕ) (v : Node) (room d : ℕ) (o : List ℕ) (k : ℕ) (c : Counts) (o' : List ℕ) : Type 0 where
   nothing_yet : k ≡ 0 → c ≡ neutral → o' ≡ o → Joined t v room d o k c o'
-  first : k ≡ 1 → walk room (d + 1) (tree_at t (operand_at v 0)) ≡ Counted c → Notes t (operand_at v 0) o o' → Joined t v room d o k c o'
-  second : (l r : Counts) (o₁ : List ℕ) → k ≡ 2 → walk room (d + 1) (tree_at t (operand_at v 0)) ≡ Counted l → Notes t (operand_at v 0) o o₁
-      → walk room (d + 1) (tree_at t (operand_at v 1)) ≡ Counted r → Notes t (operand_at v 1) o₁ o' → c ≡ product l r → Joined t v room d o k c o'
+  first : k ≡ 1 → walk room (d + 1) (tree_at t (operand_at v 0)) ≡ Ok c → Notes t (operand_at v 0) o o' → Joined t v room d o k c o'
+  second : (l r : Counts) (o₁ : List ℕ) → k ≡ 2 → walk room (d + 1) (tree_at t (operand_at v 0)) ≡ Ok l → Notes t (operand_at v 0) o o₁
+      → walk room (d + 1) (tree_at t (operand_at v 1)) ≡ Ok r → Notes t (operand_at v 1) o₁ o' → c ≡ product l r → Joined t v room d o k c o'
 
 pub record Joining (t : List ℕ) (n room d : ℕ) (o : List ℕ) (k : ℕ) (c : Counts) (o' : List ℕ) : Type 0 where
   pub turn : k ≤ visits (node_at t n)
@@ -74,28 +74,28 @@ module _ {t : List ℕ} {n room d : ℕ} (S : Countable t n room d) (h : d ≤ 2
     pub operand_countable : Countable t p room (d + 1)
     operand_countable = record { formed = S.formed; inside = omega (arith, low, S.inside); rooms = S.rooms; deep = omega arith }
 
-    module _ {o o' : List ℕ} {c : Counts} (J : Joining t n room d o k c o') {x : Walked} (a : x ≡ walk room (d + 1) (tree_at t p)) where
+    module _ {o o' : List ℕ} {c : Counts} (J : Joining t n room d o k c o') {x : Result Counts Refusal} (a : x ≡ walk room (d + 1) (tree_at t p)) where
       -- A refusal is the answer.
-      pub operand_refused : {number place : ℕ} → x ≡ Refused number place → x ≡ walk room d (tree_at t n)
+      pub operand_refused : {why : Refusal} → x ≡ Err why → Err why ≡ walk room d (tree_at t n)
       unfolding and_then
-      operand_refused {number} {place} refused = by (visiting v) J.joined
+      operand_refused {why} refused = by (visiting v) J.joined
         where
-          below_p : walk room (d + 1) (tree_at t p) ≡ Refused number place
+          below_p : walk room (d + 1) (tree_at t p) ≡ Err why
           below_p = sym a ∙ refused
 
-          by : Visiting v → Joined t v room d o k c o' → x ≡ walk room d (tree_at t n)
+          by : Visiting v → Joined t v room d o k c o' → Err why ≡ walk room d (tree_at t n)
           by (both kind r' two left right) (nothing_yet z _ _) =
-              let is : p ≡ v.p = q ∙ rw (z, left) refl in refused ∙ sym (delay_walk S h kind ∙ rw (rw is at below_p) refl)
+              let is : p ≡ v.p = q ∙ rw (z, left) refl in sym (delay_walk S h kind ∙ rw (rw is at below_p) refl)
           by (both kind r' two left right) (first z counts _) =
               let is : p ≡ v.q = q ∙ rw (z, right) refl in
-              refused ∙ sym (delay_walk S h kind ∙ rw (rw left at counts, rw is at below_p) refl)
+              sym (delay_walk S h kind ∙ rw (rw left at counts, rw is at below_p) refl)
           by (both kind r' two left right) (second l r o₁ z _ _ _ _ _) = absurd (omega arith)
-          by (covered_one kind g r' one under) J = let is : p ≡ v.q = q ∙ rw ((let z : k ≡ 0 = omega arith in z), under) refl in refused ∙ sym (throughout_walk S h kind ∙ rw (rw is at below_p) refl)
-          by (repeated_one R r' one under) J = let is : p ≡ v.p = q ∙ rw ((let z : k ≡ 0 = omega arith in z), under) refl in refused ∙ sym (repetition_walk S h R ∙ rw (rw is at below_p) refl)
+          by (covered_one kind g r' one under) J = let is : p ≡ v.q = q ∙ rw ((let z : k ≡ 0 = omega arith in z), under) refl in sym (throughout_walk S h kind ∙ rw (rw is at below_p) refl)
+          by (repeated_one R r' one under) J = let is : p ≡ v.p = q ∙ rw ((let z : k ≡ 0 = omega arith in z), under) refl in sym (repetition_walk S h R ∙ rw (rw is at below_p) refl)
           by (none f g r' zero) J = absurd (omega arith)
 
       -- The counts of an operand that is not refused are joined to those before it.
-      pub joining_on : {s c' : Counts} {o'' : List ℕ} → x ≡ Counted s → WhereCounted x (Notes t p o' o'') → c' ≡ product c s → length o'' ≡ length o'
+      pub joining_on : {s c' : Counts} {o'' : List ℕ} → x ≡ Ok s → Notes t p o' o'' → c' ≡ product c s → length o'' ≡ length o'
           → Joining t n room d o (k + 1) c' o''
       joining_on {s} {c'} {o''} counts N made same = record {
         turn = omega arith;
@@ -104,17 +104,17 @@ module _ {t : List ℕ} {n room d : ℕ} (S : Countable t n room d) (h : d ≤ 2
         joined = by J.joined;
       }
         where
-          below_p : walk room (d + 1) (tree_at t p) ≡ Counted s
+          below_p : walk room (d + 1) (tree_at t p) ≡ Ok s
           below_p = sym a ∙ counts
 
           by : Joined t v room d o k c o' → Joined t v room d o (k + 1) c' o''
           by (nothing_yet z blank start) =
               let is : p ≡ operand_at v 0 = q ∙ rw z refl in
               let alone : c' ≡ s = made ∙ operand_alone S h low below_p blank in
-              first (omega arith) (rw alone (rw is at below_p)) (rw (is, start) at (counted counts N))
+              first (omega arith) (rw alone (rw is at below_p)) (rw (is, start) at N)
           by (first z counts₀ N₀) =
               let is : p ≡ operand_at v 1 = q ∙ rw z refl in
-              second c s o' (omega arith) counts₀ N₀ (rw is at below_p) (rw is at (counted counts N)) made
+              second c s o' (omega arith) counts₀ N₀ (rw is at below_p) (rw is at N) made
           by (second l r o₁ z _ _ _ _ _) = absurd (few (visiting v))
             where
               few : Visiting v → ⊥
@@ -148,7 +148,7 @@ module _ {t : List ℕ} {n room d : ℕ} (S : Countable t n room d) (h : d ≤ 2
   unfolding left_of
   itself o r = pick_false _ _ r
 
-  copied_left : {o : List ℕ} {c : Counts} (R : Repetition (node_at t n)) → is_repeated (node_at t n) ≡ true → walk room (d + 1) (tree_at t v.p) ≡ Counted c
+  copied_left : {o : List ℕ} {c : Counts} (R : Repetition (node_at t n)) → is_repeated (node_at t n) ≡ true → walk room (d + 1) (tree_at t v.p) ≡ Ok c
       → Known t o v.p → left_of o n v ≡ bare (tree_at t n)
   unfolding left_of bare
   copied_left R r e K =
@@ -156,13 +156,7 @@ module _ {t : List ℕ} {n room d : ℕ} (S : Countable t n room d) (h : d ≤ 2
       ∙ rw (bare_known (operand_expandable S h ((words S h).consec_under R.kind) e) K, is_finite S.formed S.inside refl R.kind R.limited) refl
 
   module _ {m k : ℕ} (e : m ≡ visits (node_at t n)) (last : m ≤ k) {o o' : List ℕ} {c : Counts} (J : Joining t n room d o k c o') where
-    pub answerable : nodes t ≤ length o → Answerable t o' n
-    answerable long = record { formed = S.formed; inside = S.inside; long = omega (arith, J.long) }
-
-    pub joined_small : Small c
-    joined_small = J.small
-
-    pub answer_done : {z : Walked} → z ≡ answer room n (node_at t n) (node_at t (node_at t n).p) c → z ≡ walk room d (tree_at t n)
+    pub answer_done : {z : Result Counts Refusal} → z ≡ answer room n (node_at t n) (node_at t (node_at t n).p) c → z ≡ walk room d (tree_at t n)
     unfolding and_then
     answer_done {z} u = by (visiting v) J.joined
       where
@@ -186,11 +180,11 @@ module _ {t : List ℕ} {n room d : ℕ} (S : Countable t n room d) (h : d ≤ 2
         by (none f g r' zero) J = u ∙ unvisited_answer c f g r' ∙ sym (not_visited_walk S h refl f g r')
 
     -- The node's word stands behind those of its operands.
-    pub answer_noted : {z : Walked} {o'' : List ℕ} → nodes t ≤ length o → z ≡ walk room d (tree_at t n) → o'' ≡ noted o' n (left_of o' n (node_at t n)) z → WhereCounted z (Notes t n o o'')
+    pub answer_noted : {z : Result Counts Refusal} {o'' : List ℕ} → nodes t ≤ length o → z ≡ walk room d (tree_at t n) → o'' ≡ noted o' n (left_of o' n (node_at t n)) z → OnOk z (Notes t n o o'')
     unfolding bare
-    answer_noted {z} {o''} long own put = record { holds = λ counts is. by counts is (visiting v) J.joined }
+    answer_noted {z} {o''} long own put = where_counted z (λ counts is. by counts is (visiting v) J.joined)
       where
-        by : (counts : Counts) → z ≡ Counted counts → Visiting v → Joined t v room d o k c o' → Notes t n o o''
+        by : (counts : Counts) → z ≡ Ok counts → Visiting v → Joined t v room d o k c o' → Notes t n o o''
         by counts is (both kind r' two left right) (second l r o₁ _ _ N _ N' _) =
             let tree = is_delay S.formed S.inside refl kind in
             delay_notes t n o' (left_of o' n v) room d S.inside (itself o' r' ∙ sym (ap bare tree)) own is put tree (rw left at N) (rw right at N')

@@ -8,13 +8,14 @@ use native.Mathlib.Decide.{ℕ_discrete}
 use lib.Dec.{eqb, ltb}
 use borrow.Author.Tests.{ne_eqb, le-ltb}
 use Rattle.words.specs.Choice.{pick, pick_cong, pick_false}
+use Rattle.std.specs.Prelude.{Err}
+use Rattle.meaning.specs.declared.refusal.Refusal.TheVariants.{CountTooHigh, NotOverAnAtom, WithinBelowRoot}
 use Rattle.meaning.specs.Tree.{finite, Seq, Operand, boolean, other, operand, node_at, unlimited, tree_at, nodes}
 use Rattle.meaning.specs.Alternative.{SeqAlt, single, over, consec_unbounded}
 use Rattle.meaning.specs.Refusals.{is_bool, limited, deep_enough, is_boolean, over_boolean, walk_in, walk}
 use Rattle.meaning.specs.Lowerable.{WellFormed, FormedTable}
 use Rattle.meaning.specs.declared.Node.{Node}
 use Rattle.meaning.specs.declared.Counts.{Counts}
-use Rattle.meaning.specs.declared.Walked.TheVariants.{Refused}
 use Rattle.meaning.specs.declared.SeqTerm.{SeqTerm}
 use Rattle.meaning.specs.declared.SeqTerm.TheVariants.{Bool as BoolTerm, Empty}
 use Rattle.meaning.proofs.Ranges.{by_kind, finite_max}
@@ -39,12 +40,12 @@ is_an_atom t k formed inside =
 
 -- 5 and 6 over a Boolean, where the counts stand for what is made of it.
 over_stands : (room n count : ℕ) (x : Operand) (f : ℕ → List SeqAlt) (c : Counts) → room ≤ 65536 → ((b : ℕ) → Stands c (f b))
-    → over_boolean n count x (limited room n (over x f)) ≡ pick (ltb 256 count) (Refused 5 n) (pick (is_boolean x) (limit room n c) (Refused 6 n))
+    → over_boolean n count x (limited room n (over x f)) ≡ pick (ltb 256 count) (Err (CountTooHigh n)) (pick (is_boolean x) (limit room n c) (Err (NotOverAnAtom n)))
 unfolding over_boolean
 over_stands room n count (boolean b) f c h s = rw (limit_stands room n h (s b)) refl
 over_stands room n count other f c h s = pick_cong (ltb 256 count) (λ _. refl) (λ _. sixth)
   where
-    sixth : pick false (limited room n []) (Refused 6 n) ≡ pick false (limit room n c) (Refused 6 n)
+    sixth : pick false (limited room n []) (Err (NotOverAnAtom n)) ≡ pick false (limit room n c) (Err (NotOverAnAtom n))
     sixth = pick_false _ _ refl ∙ sym (pick_false _ _ refl)
 
 -- A repetition from 1 on has no Empty.
@@ -72,7 +73,7 @@ module _ {t : List ℕ} {n room d : ℕ} {v : Node} (S : Countable t n room d) (
   walk_at {s} e = rw e (not_too_deep room d s h)
 
   -- A within that is walked is refused with 8.
-  at_a_within : v.kind ≡ 7 → walk room d (tree_at t n) ≡ Refused 8 n
+  at_a_within : v.kind ≡ 7 → walk room d (tree_at t n) ≡ Err (WithinBelowRoot n)
   unfolding walk_in
   at_a_within k = walk_at (is_within S.formed S.inside w k)
 

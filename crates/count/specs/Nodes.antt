@@ -1,13 +1,13 @@
 -- What the walk answers at a node, from the counts of its operands: the specification's order at each node, in arithmetic alone.
--- Example: `limit 65536 2 (Counts-of 257 0 true false)` is Refused 10 2.
-use Rattle.std.specs.Prelude.{Bool, true, false, not, ◌≡◌, List, ℕ, ◌+◌, ◌*◌, ◌-◌, ◌≤◌, ◌<◌, eqb, ltb, length}
+-- Example: `limit 65536 2 (counts_of 257 0 true false)` is Err (TooManyAlternatives 2).
+use Rattle.std.specs.Prelude.{Result, Ok, Err, Bool, true, false, not, ◌≡◌, List, ℕ, ◌+◌, ◌*◌, ◌-◌, ◌≤◌, ◌<◌, eqb, ltb, length}
 use Rattle.words.specs.Choice.{pick}
+use Rattle.meaning.specs.declared.refusal.Refusal.{Refusal}
+use Rattle.meaning.specs.declared.refusal.Refusal.TheVariants.{CountTooHigh, NotOverAnAtom, ThroughoutNotPlain, WithinBelowRoot, WithinNotPlain, TooManyAlternatives, TooManyEntries}
 use Rattle.meaning.specs.Tree.{finite, node_at, nodes, below, unlimited}
 use Rattle.meaning.specs.Lowerable.{FormedTable}
 use Rattle.meaning.specs.declared.Node.{Node}
 use Rattle.meaning.specs.declared.Counts.{Counts}
-use Rattle.meaning.specs.declared.Walked.{Walked}
-use Rattle.meaning.specs.declared.Walked.TheVariants.{Counted, Refused}
 use Rattle.outline.specs.Outline.{is_repeated, is_once, bare_in, Known}
 use Rattle.count.specs.Capped.{nothing, bool_term, other_term, capped, times, copied, summed, with_empty, not_plain, guarded_each}
 
@@ -51,8 +51,8 @@ pub record Unvisited (t : List ℕ) (n : ℕ) (v : Node) : Type 0 where
   pub no_throughout : v.kind ≡ 6 → ⊥
 
 -- 10 and 11 at node n, then what was counted.
-unfoldable pub limit : ℕ → ℕ → Counts → Walked
-limit room n c = pick (ltb 256 c.alternatives) (Refused 10 n) (pick (ltb room c.entries) (Refused 11 n) (Counted c))
+unfoldable pub limit : ℕ → ℕ → Counts → Result Counts Refusal
+limit room n c = pick (ltb 256 c.alternatives) (Err (TooManyAlternatives n)) (pick (ltb room c.entries) (Err (TooManyEntries n)) (Ok c))
 
 -- A delay of operands that one hop joins to c: one "at least" hop for $, else each fixed hop from min to max.
 unfoldable pub delay_counts : Node → Counts → Counts
@@ -63,34 +63,34 @@ unfoldable pub consec_counts : Node → Counts → Counts
 consec_counts v s = with_empty v.min (summed s nothing (copied s s (below v.min)) (v.max - below v.min))
 
 -- 5 of a finite [*], which comes after its operand, then 10 and 11.
-unfoldable pub repeated : ℕ → ℕ → Node → Counts → Walked
-repeated room n v s = pick (ltb 256 v.max) (Refused 5 n) (limit room n (consec_counts v s))
+unfoldable pub repeated : ℕ → ℕ → Node → Counts → Result Counts Refusal
+repeated room n v s = pick (ltb 256 v.max) (Err (CountTooHigh n)) (limit room n (consec_counts v s))
 
 -- 7 of a throughout, which comes after its operand, then 10 and 11.
-unfoldable pub covered : ℕ → ℕ → Counts → Walked
-covered room n s = pick s.plain (limit room n (guarded_each s)) (Refused 7 n)
+unfoldable pub covered : ℕ → ℕ → Counts → Result Counts Refusal
+covered room n s = pick s.plain (limit room n (guarded_each s)) (Err (ThroughoutNotPlain n))
 
 -- 5 and 6 of the kinds 4, 5 and [*m:$], from the words of the operand's node: it is read for its kind only.
-unfoldable pub over_node : ℕ → ℕ → Node → Node → Walked
+unfoldable pub over_node : ℕ → ℕ → Node → Node → Result Counts Refusal
 over_node room n v under =
-    pick (ltb 256 v.min) (Refused 5 n) (pick (eqb under.kind 1) (limit room n (with_empty v.min other_term)) (Refused 6 n))
+    pick (ltb 256 v.min) (Err (CountTooHigh n)) (pick (eqb under.kind 1) (limit room n (with_empty v.min other_term)) (Err (NotOverAnAtom n)))
 
 -- SPECIFICATION, "Refusals": "The operands of [->], [=], [*0] and [*m:$] are not visited"; an atom has none, and 8 comes before those of a within.
-unfoldable pub unvisited : ℕ → ℕ → Node → Node → Walked
+unfoldable pub unvisited : ℕ → ℕ → Node → Node → Result Counts Refusal
 unvisited room n v under =
     pick (eqb v.kind 7)
-    (Refused 8 n)
+    (Err (WithinBelowRoot n))
     (pick (eqb v.kind 1)
     (limit room n bool_term)
     (pick (pick (eqb v.kind 3) (eqb v.max 0) false) (limit room n other_term) (over_node room n v under)))
 
 -- The answer of a node that is no finite [*] other than [*0], from the counts of its visited operands, joined by one hop.
-unfoldable pub unrepeated : ℕ → ℕ → Node → Node → Counts → Walked
+unfoldable pub unrepeated : ℕ → ℕ → Node → Node → Counts → Result Counts Refusal
 unrepeated room n v under c =
     pick (eqb v.kind 2) (limit room n (delay_counts v c)) (pick (eqb v.kind 6) (covered room n c) (unvisited room n v under))
 
 -- The answer of any node, from the counts of its visited operands, joined by one hop.
-unfoldable pub answer : ℕ → ℕ → Node → Node → Counts → Walked
+unfoldable pub answer : ℕ → ℕ → Node → Node → Counts → Result Counts Refusal
 answer room n v under c = pick (is_repeated v) (repeated room n v c) (unrepeated room n v under c)
 
 -- The node that is left of a node without the [*1] over it, from the operand's word.
@@ -110,8 +110,8 @@ abbrev pub fits_within : Counts → Bool
 fits_within c = pick c.plain (not c.guarded) false
 
 -- 9, 10 and 11 of a root within: "the product of its operands' numbers", "the sum of its operands' entries".
-unfoldable pub paired : ℕ → ℕ → Counts → Counts → Walked
+unfoldable pub paired : ℕ → ℕ → Counts → Counts → Result Counts Refusal
 paired room n x y =
     pick (pick (fits_within x) (fits_within y) false)
     (limit room n (capped (x.alternatives * y.alternatives) (x.entries + y.entries) true false))
-    (Refused 9 n)
+    (Err (WithinNotPlain n))

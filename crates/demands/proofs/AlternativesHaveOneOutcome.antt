@@ -42,6 +42,7 @@ use Rattle.pipeline.specs.contracts.stores as stores
 use Rattle.pipeline.specs.contracts.steps_fit as steps_fit
 use Rattle.pipeline.specs.contracts.registers as pipeline_registers
 use Rattle.sizes.specs.contracts.delays as sizes_delays
+use Rattle.sizes.specs.contracts.SizeAdd.add as sizes_add
 use Rattle.sizes.specs.contracts.sizes as sizes
 use Rattle.alternative.specs.contracts.keep as keep
 use Rattle.alternative.specs.contracts.registers as alternative-registers
@@ -92,7 +93,7 @@ module _ {M : Type 1} {𝓤 : Ura M} (𝓛 : Logic 𝓤) (mem : Memory → SProp
   step_text_hop_suffix_has_one_outcome κs a g o o' = by_writing 𝓤 (λ out. (tt, (out, (tt, tt))))
 
   pub step_text_hop_base_has_one_outcome : OneOutcome 𝓤 hop_base.ended (hop_base.clauses 𝓛 mem run)
-  step_text_hop_base_has_one_outcome κs a g o o' = by_writing 𝓤 (λ out. (tt, (tt, (tt, (tt, (out, (tt, tt)))))))
+  step_text_hop_base_has_one_outcome κs a g o o' = by_writing 𝓤 (λ out. (tt, (tt, (tt, (out, (tt, tt))))))
 
   pub step_text_term_prefix_has_one_outcome : OneOutcome 𝓤 term_prefix.ended (term_prefix.clauses 𝓛 mem run)
   step_text_term_prefix_has_one_outcome κs a g o o' = by_writing 𝓤 (λ out. (tt, (tt, (out, (tt, tt)))))
@@ -104,7 +105,7 @@ module _ {M : Type 1} {𝓤 : Ura M} (𝓛 : Logic 𝓤) (mem : Memory → SProp
   step_text_term_base_has_one_outcome κs a g o o' = by_writing 𝓤 (λ out. (tt, (tt, (out, (tt, tt)))))
 
   pub step_text_first_has_one_outcome : OneOutcome 𝓤 first.ended (first.clauses 𝓛 mem run)
-  step_text_first_has_one_outcome κs a g o o' = by_writing 𝓤 (λ out. (tt, (tt, (tt, (tt, (out, (tt, tt)))))))
+  step_text_first_has_one_outcome κs a g o o' = by_writing 𝓤 (λ out. (tt, (tt, (tt, (out, (tt, tt))))))
 
   pub step_text_step_prefix_has_one_outcome : OneOutcome 𝓤 step_prefix.ended (step_prefix.clauses 𝓛 mem run)
   step_text_step_prefix_has_one_outcome κs a g o o' = by_writing 𝓤 (λ out. (tt, (tt, (out, (tt, tt)))))
@@ -113,7 +114,7 @@ module _ {M : Type 1} {𝓤 : Ura M} (𝓛 : Logic 𝓤) (mem : Memory → SProp
   step_text_step_suffix_has_one_outcome κs a g o o' = by_writing 𝓤 (λ out. (tt, (tt, (out, (tt, tt)))))
 
   pub step_text_step_base_has_one_outcome : OneOutcome 𝓤 step_base.ended (step_base.clauses 𝓛 mem run)
-  step_text_step_base_has_one_outcome κs a g o o' = by_writing 𝓤 (λ out. (tt, (tt, (tt, (tt, (out, (tt, tt)))))))
+  step_text_step_base_has_one_outcome κs a g o o' = by_writing 𝓤 (λ out. (tt, (tt, (tt, (out, (tt, tt))))))
 
   -- The current expression.
   pub current_registers_at_has_one_outcome : OneOutcome 𝓤 registers_at.ended (registers_at.clauses 𝓛 mem run)
@@ -123,24 +124,24 @@ module _ {M : Type 1} {𝓤 : Ura M} (𝓛 : Logic 𝓤) (mem : Memory → SProp
   current_register_after_has_one_outcome κs a g o o' = by_an_equation 𝓤
 
   pub current_has_one_outcome : OneOutcome 𝓤 current.ended (current.clauses 𝓛 mem run)
-  current_has_one_outcome κs a g o o' = by_writing 𝓤 (λ out. (tt, (tt, (tt, (tt, (out, (tt, tt)))))))
+  current_has_one_outcome κs a g o o' = by_writing 𝓤 (λ out. (tt, (tt, (tt, (out, (tt, tt))))))
 
   pub current_before_has_one_outcome : OneOutcome 𝓤 before.ended (before.clauses 𝓛 mem run)
-  current_before_has_one_outcome κs a g o o' = by_writing 𝓤 (λ out. (tt, (tt, (tt, (tt, (out, (tt, tt)))))))
+  current_before_has_one_outcome κs a g o o' = by_writing 𝓤 (λ out. (tt, (tt, (tt, (out, (tt, tt))))))
 
   pub current_activation_has_one_outcome : OneOutcome 𝓤 activation.ended (activation.clauses 𝓛 mem run)
-  current_activation_has_one_outcome κs a g o o' = by_writing 𝓤 (λ out. (tt, (tt, (tt, (tt, (out, (tt, tt)))))))
+  current_activation_has_one_outcome κs a g o o' = by_writing 𝓤 (λ out. (tt, (tt, (tt, (out, (tt, tt))))))
 
   -- The machines.
   pub fsm_apply_term_has_one_outcome : OneOutcome 𝓤 apply_term.ended (apply_term.clauses 𝓛 mem run)
-  fsm_apply_term_has_one_outcome κs a g o o' = by_writing 𝓤 (λ out. (tt, (tt, (tt, (tt, (tt, (tt, (out, (tt, tt)))))))))
+  fsm_apply_term_has_one_outcome κs a g o o' = by_writing 𝓤 (λ out. (tt, (tt, (tt, (tt, (tt, (out, (tt, tt))))))))
 
   -- The stores of an alternative.
   pub pipeline_delays_has_one_outcome : OneOutcome 𝓤 pipeline_delays.ended (pipeline_delays.clauses 𝓛 mem run)
-  pipeline_delays_has_one_outcome κs a g o o' = by_writing 𝓤 (λ out. (tt, (tt, (tt, (tt, (out, (tt, tt)))))))
+  pipeline_delays_has_one_outcome κs a g o o' = by_writing 𝓤 (λ out. (tt, (tt, (tt, (out, (tt, tt))))))
 
   pub pipeline_stores_has_one_outcome : OneOutcome 𝓤 stores.ended (stores.clauses 𝓛 mem run)
-  pipeline_stores_has_one_outcome κs a g o o' = by_writing 𝓤 (λ out. (tt, (tt, (out, (tt, tt)))))
+  pipeline_stores_has_one_outcome κs a g o o' = by_writing 𝓤 (λ out. (tt, (out, (tt, tt))))
 
   pub pipeline_steps_fit_has_one_outcome : OneOutcome 𝓤 steps_fit.ended (steps_fit.clauses 𝓛 mem run)
   pipeline_steps_fit_has_one_outcome κs a g o o' = by_an_equation 𝓤
@@ -155,6 +156,9 @@ module _ {M : Type 1} {𝓤 : Ura M} (𝓛 : Logic 𝓤) (mem : Memory → SProp
   pub sizes_has_one_outcome : OneOutcome 𝓤 sizes.ended (sizes.clauses 𝓛 mem run)
   sizes_has_one_outcome κs a g o o' = by_an_equation 𝓤
 
+  pub sizes_add_has_one_outcome : OneOutcome 𝓤 sizes_add.ended (sizes_add.clauses 𝓛 mem run)
+  sizes_add_has_one_outcome κs a g o o' = by_an_equation 𝓤
+
   -- An alternative that is kept in work. Where its guard stands, and what work holds behind it, is left open.
   pub alternative_keep_has_one_outcome :
       OneOutcomeUpTo 𝓤 keep.ended (keep.clauses 𝓛 mem run) (λ κs a o o'. SameKept o.left.1.1.1.1.1.0 o.result o'.left.1.1.1.1.1.0 o'.result)
@@ -167,7 +171,7 @@ module _ {M : Type 1} {𝓤 : Ura M} (𝓛 : Logic 𝓤) (mem : Memory → SProp
   alternative_next_register_has_one_outcome κs a g o o' = by_an_equation 𝓤
 
   pub alternative_text_has_one_outcome : OneOutcome 𝓤 text.ended (text.clauses 𝓛 mem run)
-  alternative_text_has_one_outcome κs a g o o' = by_writing 𝓤 (λ out. (tt, (tt, (tt, (out, (tt, tt))))))
+  alternative_text_has_one_outcome κs a g o o' = by_writing 𝓤 (λ out. (tt, (tt, (out, (tt, tt)))))
 
   pub alternative_size_has_one_outcome : OneOutcome 𝓤 size.ended (size.clauses 𝓛 mem run)
   alternative_size_has_one_outcome κs a g o o' = by_an_equation_and_a_bound 𝓤

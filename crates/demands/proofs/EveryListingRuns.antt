@@ -11,25 +11,25 @@ use Rattle.words.proofs.Laws.{length-written}
 use Rattle.meaning.specs.Listing.{Names, atoms_named}
 use Rattle.meaning.specs.Tick.{stored, next_after, stack_left}
 use Rattle.meaning.specs.Lower.{lower, output_after}
-use Rattle.meaning.specs.declared.Lowered.TheVariants.{Listing}
-use Rattle.meaning.specs.declared.Ticked.{Ticked}
-use Rattle.meaning.specs.declared.Ticked.TheVariants.{Match, Refused}
 use Rattle.sva_c.specs.Boundary.{ticked_number, match_after, ticked_place}
 use Rattle.demands.specs.Shipped.{RunsAsShipped}
 use Rattle.demands.specs.ShippedForC.{RunsForC}
 use Rattle.demands.proofs.RunsGoOn.{answer_from, stored_from}
 use Rattle.demands.proofs.RunsForC.{a_run_is_one_for_C}
+use Rattle.std.specs.Prelude.{Result, Ok, Err}
+use Rattle.meaning.specs.Answers.{listed}
+use Rattle.meaning.specs.declared.refusal.TickRefusal.{TickRefusal}
 
 -- A tick leaves next as long as it was.
-as_long_as_it_was : (answer : Ticked) (ws cur atoms next : List ℕ) → length (next_after answer ws cur atoms next) ≡ length next
+as_long_as_it_was : (answer : Result ℕ TickRefusal) (ws cur atoms next : List ℕ) → length (next_after answer ws cur atoms next) ≡ length next
 unfolding next_after
-as_long_as_it_was (Match bit) ws cur atoms next = length-written next 0 (stored cur atoms ws [])
-as_long_as_it_was (Refused number place) ws cur atoms next = refl
+as_long_as_it_was (Ok bit) ws cur atoms next = length-written next 0 (stored cur atoms ws [])
+as_long_as_it_was (Err refusal) ws cur atoms next = refl
 
-module _ (tree work out : List ℕ) (registers words deepest : ℕ) (accepted : lower tree (length work) (length out) 0 ≡ Listing registers words deepest) where
+module _ (tree work out : List ℕ) (registers words deepest : ℕ) (accepted : lower tree (length work) (length out) 0 ≡ listed registers words deepest) where
   -- The output after lowering, and the listing in front of it.
   abbrev out' : List ℕ
-  out' = output_after (Listing registers words deepest) tree 0 out
+  out' = output_after (listed registers words deepest) tree 0 out
 
   abbrev listing : List ℕ
   listing = take words out'
@@ -42,7 +42,7 @@ module _ (tree work out : List ℕ) (registers words deepest : ℕ) (accepted : 
     cur (suc n) = take registers (stored_from listing atoms next stack (cur n) n) ++ tail (suc n)
 
     -- What each tick answers, and leaves in next and in the stack.
-    abbrev answer : ℕ → Ticked
+    abbrev answer : ℕ → Result ℕ TickRefusal
     answer n = answer_from listing atoms next stack (cur n) n
 
     abbrev next' : ℕ → List ℕ

@@ -10,7 +10,6 @@ use types.Logic.{Logic}
 use contract.Monad.{Fun}
 use denote.Ref.{Bor}
 use Rattle.meaning.specs.Tick.{next_after, stack_left}
-use Rattle.meaning.specs.declared.Ticked.{Ticked}
 use Rattle.tick.specs.Stepped.{Stepped}
 use Rattle.stretch.specs.declared.Reader.{Reader}
 use Rattle.listing.specs.contracts.row as row
@@ -29,18 +28,20 @@ use Rattle.stretch.specs.contracts.stretch as stretch
 use Rattle.stretch.specs.contracts.start as start
 use Rattle.demands.specs.OneOutcome.{OneOutcomeUpTo, OneOutcome}
 use Rattle.demands.proofs.OneOutcome.{same_result, same_outcome_of_two, same, from_both, by_an_equation}
+use Rattle.std.specs.Prelude.{Result}
+use Rattle.meaning.specs.declared.refusal.TickRefusal.{TickRefusal}
 
 -- A tick: the answer is an equation, and what the two slices hold follows from the answer.
-module _ {ws cur atoms next next₁ next₂ stack stack₁ stack₂ : List ℕ} {answer answer' : Ticked}
+module _ {ws cur atoms next next₁ next₂ stack stack₁ stack₂ : List ℕ} {answer answer' : Result ℕ TickRefusal}
     (p : Stepped ws cur atoms next next₁ stack stack₁ answer) (p' : Stepped ws cur atoms next next₂ stack stack₂ answer') where
   steps_to_one_answer : answer ≡ answer'
   steps_to_one_answer = same p.answer p'.answer
 
   steps_to_one_next : next₁ ≡ next₂
-  steps_to_one_next = p.next_holds ∙ ap (λ (r : Ticked). next_after r ws cur atoms next) steps_to_one_answer ∙ sym p'.next_holds
+  steps_to_one_next = p.next_holds ∙ ap (λ (r : Result ℕ TickRefusal). next_after r ws cur atoms next) steps_to_one_answer ∙ sym p'.next_holds
 
   steps_to_one_stack : stack₁ ≡ stack₂
-  steps_to_one_stack = p.stack_holds ∙ ap (λ (r : Ticked). stack_left r stack) steps_to_one_answer ∙ sym p'.stack_holds
+  steps_to_one_stack = p.stack_holds ∙ ap (λ (r : Result ℕ TickRefusal). stack_left r stack) steps_to_one_answer ∙ sym p'.stack_holds
 
 -- A reader is what it holds and where it stands.
 same_reader : {r r' : Reader} {listing : Bor (List ℕ)} {place : ℕ}

@@ -31,9 +31,9 @@ pub same : {A : Type 0} {x y v : A} → x ≡ v → y ≡ v → x ≡ y
 same p q = p ∙ sym q
 
 -- Words written twice from the same place on leave the same behind.
-wrote_the_same : {L : Type 0} (leaving : List ℕ → L) {before after after' words : List ℕ} {place next next' : ℕ}
+wrote_the_same : {A L : Type 0} (leaving : List A → L) {before after after' words : List A} {place next next' : ℕ}
     → Wrote before after place next words → Wrote before after' place next' words → outcome next (leaving after) ≡ outcome next' (leaving after')
-wrote_the_same leaving w w' = same_outcome leaving (same w.ends w'.ends) (same w.holds w'.holds)
+wrote_the_same leaving w w' = ap₂ outcome (same w.ends w'.ends) (ap leaving (same w.holds w'.holds))
 
 module _ {M : Type 1} (𝓤 : Ura M) where
   -- What two claims of a contract give together.
@@ -60,7 +60,7 @@ module _ {M : Type 1} (𝓤 : Ura M) where
   by_an_equation_and_a_bound = from_all (λ p b p' b'. same_result (same p p'))
 
   -- The words are written from a place on, and the result is the next place.
-  pub by_writing : {L : Type 0} (leaving : List ℕ → L) {before after after' words : List ℕ} {place next next' : ℕ}
+  pub by_writing : {A L : Type 0} (leaving : List A → L) {before after after' words : List A} {place next next' : ℕ}
       → ent 𝓤 (sep 𝓤 (fact 𝓤 (Wrote before after place next words)) (fact 𝓤 (Wrote before after' place next' words)))
       (fact 𝓤 (outcome next (leaving after) ≡ outcome next' (leaving after')))
   by_writing leaving = from_both (wrote_the_same leaving)

@@ -9,7 +9,6 @@ use prog.Routine.{Routine}
 use types.Logic.{Logic}
 use contract.Monad.{Fun}
 use Rattle.meaning.specs.Lower.{output_after}
-use Rattle.meaning.specs.declared.Lowered.{Lowered}
 use Rattle.pair.specs.declared.Mark.{Mark}
 use Rattle.pair.specs.Pairs.{Marked}
 use Rattle.lower.specs.Answers.{Lowers}
@@ -28,6 +27,9 @@ use Rattle.lower.specs.contracts.lower_from as lower-from
 use Rattle.lower.specs.contracts.lower as lower
 use Rattle.demands.specs.OneOutcome.{OneOutcomeUpTo, OneOutcome, OneResult}
 use Rattle.demands.proofs.OneOutcome.{same_outcome, same_outcome_of_two, same, from_both, by_an_equation_and_a_bound}
+use Rattle.std.specs.Prelude.{Result}
+use Rattle.meaning.specs.declared.Listing.{Listing}
+use Rattle.meaning.specs.declared.refusal.Refusal.{Refusal}
 
 -- A pair: where the next one goes on is a place and a register, and what stands before are the words written.
 module _ {before after after' words : List ℕ} {place register : ℕ} {m m' : Mark}
@@ -39,13 +41,13 @@ module _ {before after after' words : List ℕ} {place register : ℕ} {m m' : M
   leaves_one_output = same p.wrote.holds p'.wrote.holds
 
 -- Lowering: the answer is an equation, and the output follows from the answer.
-module _ {tree : List ℕ} {first : ℕ} {work out : List ℕ} {answer answer' : Lowered} {work₁ out₁ work₂ out₂ : List ℕ}
+module _ {tree : List ℕ} {first : ℕ} {work out : List ℕ} {answer answer' : Result Listing Refusal} {work₁ out₁ work₂ out₂ : List ℕ}
     (p : Lowers tree first work out answer work₁ out₁) (p' : Lowers tree first work out answer' work₂ out₂) where
   lowers_to_one_answer : answer ≡ answer'
   lowers_to_one_answer = same p.answers p'.answers
 
   lowers_to_one_output : out₁ ≡ out₂
-  lowers_to_one_output = p.holds ∙ ap (λ (r : Lowered). output_after r tree first out) lowers_to_one_answer ∙ sym p'.holds
+  lowers_to_one_output = p.holds ∙ ap (λ (r : Result Listing Refusal). output_after r tree first out) lowers_to_one_answer ∙ sym p'.holds
 
   lowers_to_one_work : work₁ ≡ work₂
   lowers_to_one_work = same p.cleared p'.cleared

@@ -7,31 +7,33 @@ use native.Mathlib.Omega.{arith}
 use lib.ListN.{length, take}
 use Rattle.meaning.specs.Tick.{tick}
 use Rattle.meaning.specs.Lower.{lower}
-use Rattle.meaning.specs.declared.Lowered.{Lowered}
-use Rattle.meaning.specs.declared.Lowered.TheVariants.{Listing, Refused}
-use Rattle.meaning.specs.declared.Ticked.{Ticked}
 use Rattle.meaning.proofs.RefusalNumbers.{Numbered, refusals_are_numbered_from_1_to_14}
 use Rattle.lower.specs.Answers.{Lowers}
 use Rattle.tick.specs.Stepped.{Stepped}
 use Rattle.sva_c.specs.Boundary.{lowered_number, lowered_registers, lowered_words, lowered_deepest, lowered_place, LowersForC, ticked_number, match_after, ticked_place, TicksForC}
 use Rattle.demands.specs.Shipped.{RunsAsShipped}
 use Rattle.demands.specs.ShippedForC.{RunsForC}
+use Rattle.std.specs.Prelude.{Result, Ok, Err}
+use Rattle.meaning.specs.Answers.{listed}
+use Rattle.meaning.specs.declared.Listing.{Listing}
+use Rattle.meaning.specs.declared.refusal.Refusal.{Refusal}
+use Rattle.meaning.specs.declared.refusal.TickRefusal.{TickRefusal}
 
 -- An answer of number 0 is the listing of its counts.
-listed_at_0 : (answer : Lowered) → Numbered answer → 0 ≡ lowered_number answer
-    → Listing (lowered_registers answer) (lowered_words answer) (lowered_deepest answer) ≡ answer
+listed_at_0 : (answer : Result Listing Refusal) → Numbered answer → 0 ≡ lowered_number answer
+    → listed (lowered_registers answer) (lowered_words answer) (lowered_deepest answer) ≡ answer
 unfolding lowered_number lowered_registers lowered_words lowered_deepest
-listed_at_0 (Listing registers words deepest) numbered e = refl
-listed_at_0 (Refused number place) numbered e = absurd (omega arith)
+listed_at_0 (Ok listing) numbered e = refl
+listed_at_0 (Err refusal) numbered e = absurd (omega arith)
 
 -- So `sva_lower` returning 0 is `lower` answering with a listing.
 pub a_returned_0_is_a_listing : {tree work work' out out' : List ℕ} {registers words deepest place : ℕ}
-    → LowersForC tree work out 0 work' out' registers words deepest place → Lowers tree 0 work out (Listing registers words deepest) work' out'
+    → LowersForC tree work out 0 work' out' registers words deepest place → Lowers tree 0 work out (listed registers words deepest) work' out'
 a_returned_0_is_a_listing {tree} {work} {out = out} {registers = registers} {words} {deepest} c =
-    let listed : Listing registers words deepest ≡ lower tree (length work) (length out) 0 =
+    let answered : listed registers words deepest ≡ lower tree (length work) (length out) 0 =
     rw (c.registers_are, c.words_are, c.deepest_is)
     (listed_at_0 _ (refusals_are_numbered_from_1_to_14 tree (length work) (length out) 0) c.number_is) in
-    record { answers = listed; holds = rw listed c.out_is; cleared = c.work_is }
+    record { answers = answered; holds = rw answered c.out_is; cleared = c.work_is }
 
 -- A call of `sva_tick` is one of `tick`.
 pub a_tick_for_C_is_a_tick : {listing cur atoms next next' stack stack' : List ℕ} {held number matched place : ℕ}
@@ -52,7 +54,7 @@ module _ {ticks : ℕ} {tree work work' out out' : List ℕ} {registers words de
   }
 
   -- A run is one for C, with the numbers that it would have had there.
-  pub a_run_is_one_for_C : {answer : ℕ → Ticked}
+  pub a_run_is_one_for_C : {answer : ℕ → Result ℕ TickRefusal}
       → RunsAsShipped ticks tree work work' out out' registers words deepest cur atoms next next' stack stack' answer → (held : ℕ → ℕ)
       → RunsForC ticks tree work work' out out' registers words deepest 0 cur atoms next next' stack stack'
       held (λ n. ticked_number (answer n)) (λ n. match_after (answer n) (held n)) (λ n. ticked_place (answer n))
@@ -75,7 +77,7 @@ module _ {ticks : ℕ} {tree work work' out out' : List ℕ} {registers words de
           number_is = ap ticked_number step.answer;
           next_is = rw (← step.answer) step.next_holds;
           stack_is = rw (← step.answer) step.stack_holds;
-          match_is = ap (λ (answer : Ticked). match_after answer (held n)) step.answer;
+          match_is = ap (λ (answer : Result ℕ TickRefusal). match_after answer (held n)) step.answer;
           place_is = ap ticked_place step.answer;
         };
     lent = run.lent;

@@ -9,12 +9,13 @@ use lib.Dec.{ltb}
 use lib.ListN.{length, take}
 use Rattle.words.specs.Choice.{pick, pick_true, pick_case}
 use Rattle.meaning.specs.Tick.{tick, next_after}
-use Rattle.meaning.specs.declared.Ticked.{Ticked}
+use Rattle.std.specs.Prelude.{Result}
+use Rattle.meaning.specs.declared.refusal.TickRefusal.{TickRefusal}
 
 -- A listing, and what is lent at each tick.
 module _ (listing : List ℕ) (atoms next stack : ℕ → List ℕ) where
   -- What a tick answers, and what it leaves in next.
-  abbrev pub answer_from : List ℕ → ℕ → Ticked
+  abbrev pub answer_from : List ℕ → ℕ → Result ℕ TickRefusal
   answer_from cur n = tick listing cur (atoms n) (length (next n)) (length (stack n))
 
   abbrev pub stored_from : List ℕ → ℕ → List ℕ

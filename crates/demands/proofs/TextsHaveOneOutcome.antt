@@ -11,7 +11,6 @@ use contract.Monad.{Fun}
 use denote.RattleType.{RattleType}
 use mir.Syntax.{Dict}
 use Rattle.std.specs.declared.io.Eprint.{Ghosts}
-use Rattle.meaning.specs.declared.Lowered.{Lowered}
 use Rattle.lowered_text.specs.declared.Shown.{Shown}
 use Rattle.lowered_text.specs.Page.{Shows}
 use Rattle.text.specs.contracts.words_listed as words_listed
@@ -29,9 +28,12 @@ use Rattle.tool.specs.contracts.ended as ended
 use Rattle.listing_program.specs.contracts.status_of as status_of
 use Rattle.demands.specs.OneOutcome.{OneOutcome}
 use Rattle.demands.proofs.OneOutcome.{same_outcome, same, from_both, from_all, by_an_equation, by_an_equation_and_a_bound, by_writing, by_writing_and_a_bound}
+use Rattle.std.specs.Prelude.{Result}
+use Rattle.meaning.specs.declared.Listing.{Listing}
+use Rattle.meaning.specs.declared.refusal.Refusal.{Refusal}
 
 -- What is shown is an answer and where its text ends.
-shows_the_same : {answer : Lowered} {text page page' page'' : List ℕ} {shown shown' : Shown}
+shows_the_same : {answer : Result Listing Refusal} {text page page' page'' : List ℕ} {shown shown' : Shown}
     → Shows answer text page shown page' → Shows answer text page shown' page'' → shown ≡ shown'
 shows_the_same p p' i = record { answer = same p.answers p'.answers i; end = same p.stands.ends p'.stands.ends i }
 

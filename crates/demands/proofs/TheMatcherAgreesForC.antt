@@ -9,8 +9,6 @@ use lib.ListN.{length, get_or}
 use Rattle.meaning.specs.Tree.{root}
 use Rattle.meaning.specs.Demand3.{ThroughoutOnTop}
 use Rattle.recording.specs.Refusals.{judged}
-use Rattle.recording.specs.declared.Matched.{Matched}
-use Rattle.recording.specs.declared.Matched.TheVariants.{Ticks, Refused}
 use Rattle.recording.proofs.RefusalNumbers.{Numbered, refusals_are_numbered_from_1_to_18}
 use Rattle.recorded_runs.specs.Recorded.{atoms_at}
 use Rattle.matches.specs.Answers.{AMatchEnds, Says, Holds, Matches}
@@ -18,18 +16,20 @@ use Rattle.sva_c.specs.Boundary.{matched_number, matched_ticks, MatchesForC}
 use Rattle.demands.specs.ShippedForC.{RunsForC, MeetsTheStandardForC}
 use Rattle.demands.proofs.TheStandardIsMetForC.{sva_lower_and_sva_tick_meet_the_standard}
 use Rattle.demands.proofs.TheMatcherAgrees.{AsRecorded, the_same_matches_end}
+use Rattle.std.specs.Prelude.{Result, Ok, Err}
+use Rattle.meaning.specs.declared.refusal.Refusal.{Refusal}
 
 -- An answer of number 0 is so many ticks.
-answered_at_0 : (answer : Matched) → Numbered answer → 0 ≡ matched_number answer → Ticks (matched_ticks answer) ≡ answer
+answered_at_0 : (answer : Result ℕ Refusal) → Numbered answer → 0 ≡ matched_number answer → Ok (matched_ticks answer) ≡ answer
 unfolding matched_number matched_ticks
-answered_at_0 (Ticks ticks) numbered e = refl
-answered_at_0 (Refused number place) numbered e = absurd (omega arith)
+answered_at_0 (Ok ticks) numbered e = refl
+answered_at_0 (Err refusal) numbered e = absurd (omega arith)
 
 -- So `sva_matches` returning 0 is `matches` answering with its ticks.
 pub a_returned_0_is_an_answer : {tree rows answers answers' work work' : List ℕ} {width ticks place : ℕ}
-    → MatchesForC tree rows width answers work 0 answers' work' ticks place → Matches tree rows width answers answers' work work' (Ticks ticks)
+    → MatchesForC tree rows width answers work 0 answers' work' ticks place → Matches tree rows width answers answers' work work' (Ok ticks)
 a_returned_0_is_an_answer {tree} {rows} {answers} {answers'} {work} {width = width} {ticks} c =
-    let answered : Ticks ticks ≡ judged tree rows width (length answers) (length work) =
+    let answered : ◌≡◌ {A = Result ℕ Refusal} (Ok ticks) (judged tree rows width (length answers) (length work)) =
     rw c.ticks_are (answered_at_0 _ (refusals_are_numbered_from_1_to_18 tree rows width (length answers) (length work)) c.number_is) in
     record { answer_is = answered; holds = subst (λ answer. Holds answer tree rows width answers answers') (sym answered) c.answers_hold; cleared = c.work_is }
 

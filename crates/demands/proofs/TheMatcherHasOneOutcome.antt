@@ -13,8 +13,6 @@ use prog.Memory.{Memory}
 use prog.Routine.{Routine}
 use types.Logic.{Logic}
 use contract.Monad.{Fun, fact}
-use Rattle.recording.specs.declared.Matched.{Matched}
-use Rattle.recording.specs.declared.Matched.TheVariants.{Ticks, Refused}
 use Rattle.recording.specs.contracts.judged as judged
 use Rattle.runs.specs.Ends.{Gains}
 use Rattle.runs.proofs.Laws.{gains_once}
@@ -31,6 +29,8 @@ use Rattle.matches.specs.Answers.{Says, Answered, Holds, Matches}
 use Rattle.matches.specs.contracts.matches as matches
 use Rattle.demands.specs.OneOutcome.{OneOutcome}
 use Rattle.demands.proofs.OneOutcome.{outcome, same, same_outcome, same_outcome_of_two, from_both, by_an_equation}
+use Rattle.std.specs.Prelude.{Result, Ok, Err}
+use Rattle.meaning.specs.declared.refusal.Refusal.{Refusal}
 
 -- A byte that says whether something holds is one byte.
 says_once : {byte byte' : ℕ} {P : Type 0} → Says byte P → Says byte' P → byte ≡ byte'
@@ -53,17 +53,17 @@ answered_once {before = before} {after} {after'} {ticks = ticks} x x' = ext_get_
     byte j l = elim (dec_le ticks j) [ yes h ↦ later j h | no h ↦ says_once (x.says j (omega arith)) (x'.says j (omega arith)) ]
 
 -- So are they for any answer, a refusal included.
-pub holds_once : (answer : Matched) (tree rows : List ℕ) (width : ℕ) (before : List ℕ) {after after' : List ℕ} → Holds answer tree rows width before after
+pub holds_once : (answer : Result ℕ Refusal) (tree rows : List ℕ) (width : ℕ) (before : List ℕ) {after after' : List ℕ} → Holds answer tree rows width before after
     → Holds answer tree rows width before after' → after ≡ after'
-holds_once (Ticks ticks) tree rows width before x x' = answered_once x x'
-holds_once (Refused number place) tree rows width before e e' = e ∙ sym e'
+holds_once (Ok ticks) tree rows width before x x' = answered_once x x'
+holds_once (Err refusal) tree rows width before e e' = e ∙ sym e'
 
 -- Two calls of `matches` with the same arguments leave the same answers.
-matches_once : {tree rows before after after' work work' work'' : List ℕ} {width : ℕ} {answer answer' : Matched}
+matches_once : {tree rows before after after' work work' work'' : List ℕ} {width : ℕ} {answer answer' : Result ℕ Refusal}
     → Matches tree rows width before after work work' answer → Matches tree rows width before after' work work'' answer' → after ≡ after'
 matches_once {tree} {rows} {before} {after} {after'} {width = width} {answer} m m' =
     holds_once answer tree rows width before m.holds
-    (subst (λ (x : Matched). Holds x tree rows width before after') (same m'.answer_is m.answer_is) m'.holds)
+    (subst (λ (x : Result ℕ Refusal). Holds x tree rows width before after') (same m'.answer_is m.answer_is) m'.holds)
 
 module _ {M : Type 1} {𝓤 : Ura M} (𝓛 : Logic 𝓤) (mem : Memory → SProp 𝓤) (run : Routine → Fun 𝓤) where
   -- Nothing is returned, and a row gains ends.

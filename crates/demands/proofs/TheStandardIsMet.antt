@@ -17,10 +17,6 @@ use Rattle.meaning.specs.Listing.{registers as registers_in, deepest as deepest_
 use Rattle.meaning.specs.Check.{check}
 use Rattle.meaning.specs.Lower.{synth_of, words_of, lower, output_after}
 use Rattle.meaning.specs.Demand3.{ThroughoutOnTop, trace, Running}
-use Rattle.meaning.specs.declared.Lowered.TheVariants.{Listing}
-use Rattle.meaning.specs.declared.Checked.TheVariants.{Described}
-use Rattle.meaning.specs.declared.Ticked.{Ticked}
-use Rattle.meaning.specs.declared.Ticked.TheVariants.{Match as MatchBit}
 use Rattle.meaning.proofs.Values.{val}
 use Rattle.meaning.proofs.Evaluation.{bit}
 use Rattle.meaning.proofs.ListingAnswer.{a_listed_table_passed_all}
@@ -31,11 +27,14 @@ use Rattle.matches.specs.Answers.{AMatchEnds}
 use Rattle.demands.specs.Shipped.{RunsAsShipped, IsABit, MeetsTheStandard}
 use Rattle.demands.proofs.MatchesLookNoFurther.{matches_look_no_further}
 use Rattle.demands.proofs.RunsGoOn.{answer_from, stored_from, gone_on, the_same_until_last, goes_on_for_good}
+use Rattle.std.specs.Prelude.{Result}
+use Rattle.meaning.specs.Answers.{listed, ticked, described}
+use Rattle.meaning.specs.declared.refusal.TickRefusal.{TickRefusal}
 
 -- One call of `lower` that answered with a listing.
 module _ {tree work work' out out' : List ℕ} {registers words deepest : ℕ}
-    (lowered : Lowers tree 0 work out (Listing registers words deepest) work' out') where
-  accepted : lower tree (length work) (length out) 0 ≡ Listing registers words deepest
+    (lowered : Lowers tree 0 work out (listed registers words deepest) work' out') where
+  accepted : lower tree (length work) (length out) 0 ≡ listed registers words deepest
   accepted = sym lowered.answers
 
   -- The words handed out are those that the tree lowers to.
@@ -46,7 +45,7 @@ module _ {tree work work' out out' : List ℕ} {registers words deepest : ℕ}
       front_written {o = out} {n = words} (record { holds = lowered.holds; ends = omega (arith, fitting.words_are) }) fitting.long_enough
 
   -- They pass the check that tick begins with.
-  pub the_words_handed_out_pass_the_check : check (take words out') ≡ Described
+  pub the_words_handed_out_pass_the_check : check (take words out') ≡ described
   the_words_handed_out_pass_the_check =
       rw the_words_handed_out_are_the_trees
       (definitions.an_accepted_listing_passes_the_check tree (length work) (length out) registers words deepest accepted)
@@ -68,21 +67,21 @@ module _ {tree work work' out out' : List ℕ} {registers words deepest : ℕ}
       (definitions.the_deepest_stack_is_counted tree (length work) (length out) registers words deepest accepted)
 
 -- A bit, as tick answers it.
-a_bit_is_a_bit : (b : Bool) → IsABit (MatchBit (bit b))
+a_bit_is_a_bit : (b : Bool) → IsABit (ticked (bit b))
 a_bit_is_a_bit true = inl refl
 a_bit_is_a_bit false = inr refl
 
 -- 1 is not 0.
-not_both : {answer : Ticked} → answer ≡ MatchBit 1 → answer ≡ MatchBit 0 → ⊥
+not_both : {answer : Result ℕ TickRefusal} → answer ≡ ticked 1 → answer ≡ ticked 0 → ⊥
 not_both e f = let z : ◌≡◌ {A = ℕ} 0 1 = cc in omega arith
 
 -- What is 1 exactly when something holds, and else 0, is 0 exactly when it does not hold.
-else_none : {P : Type 0} {answer : Ticked} → IsABit answer → (answer ≡ MatchBit 1) ↔ P → (answer ≡ MatchBit 0) ↔ (P → ⊥)
+else_none : {P : Type 0} {answer : Result ℕ TickRefusal} → IsABit answer → (answer ≡ ticked 1) ↔ P → (answer ≡ ticked 0) ↔ (P → ⊥)
 else_none (inl e) one = (λ f p. not_both e f, λ no-match. absurd (no-match (one.0 e)))
 else_none (inr e) one = (λ f p. not_both (one.1 p) f, λ no-match. e)
 
 -- A tree that is lowered, and run for some ticks.
-module _ {ticks : ℕ} {tree work work' out out' : List ℕ} {registers words deepest : ℕ} {cur atoms next next' stack stack' : ℕ → List ℕ} {answer : ℕ → Ticked}
+module _ {ticks : ℕ} {tree work work' out out' : List ℕ} {registers words deepest : ℕ} {cur atoms next next' stack stack' : ℕ → List ℕ} {answer : ℕ → Result ℕ TickRefusal}
     (run : RunsAsShipped ticks tree work work' out out' registers words deepest cur atoms next next' stack stack' answer) where
   abbrev listing : List ℕ
   listing = words_of tree 0
@@ -155,7 +154,7 @@ module _ {ticks : ℕ} {tree work work' out out' : List ℕ} {registers words de
   -- DEMAND 3.
   pub lower_and_tick_meet_the_standard : ThroughoutOnTop (root tree) → (n : ℕ) → n < ticks → MeetsTheStandard tree atoms n (answer n)
   lower_and_tick_meet_the_standard top n l =
-      let one : (answer n ≡ MatchBit 1) ↔ AMatchEnds tree atoms n =
+      let one : (answer n ≡ ticked 1) ↔ AMatchEnds tree atoms n =
       Iff.trans
       (rw (answered n l)
       (definitions.lower_meets_the_standard tree (length work) (length out) registers words deepest (accepted run.lowered)
@@ -164,7 +163,7 @@ module _ {ticks : ℕ} {tree work work' out out' : List ℕ} {registers words de
       record { one = one; none = else_none (no_tick_is_refused n l) one; a_bit = no_tick_is_refused n l }
 
 -- A run without end is one of every number of ticks, and at every tick its answer meets the standard.
-pub an_endless_run_meets_the_standard : {tree work work' out out' : List ℕ} {registers words deepest : ℕ} {cur atoms next next' stack stack' : ℕ → List ℕ} {answer : ℕ → Ticked}
+pub an_endless_run_meets_the_standard : {tree work work' out out' : List ℕ} {registers words deepest : ℕ} {cur atoms next next' stack stack' : ℕ → List ℕ} {answer : ℕ → Result ℕ TickRefusal}
     → ((ticks : ℕ) → RunsAsShipped ticks tree work work' out out' registers words deepest cur atoms next next' stack stack' answer)
     → ThroughoutOnTop (root tree) → (n : ℕ) → MeetsTheStandard tree atoms n (answer n)
 an_endless_run_meets_the_standard run top n = lower_and_tick_meet_the_standard (run (suc n)) top n (omega arith)

@@ -1,24 +1,25 @@
 -- One outcome: words put, copied and cleared, steps kept and read, trees checked and walked, their outlines, alternatives and guards.
-use mathlib.Core.Path.{refl}
+use mathlib.Core.Path.{◌≡◌}
 use seplogic.Ra.Ura.{Ura}
 use base.Logic.{SProp}
 use prog.Memory.{Memory}
 use prog.Routine.{Routine}
 use types.Logic.{Logic}
 use contract.Monad.{Fun}
+use denote.RattleType.{RattleType}
+use mir.Syntax.{Dict}
+use Rattle.std.specs.declared.clone.Clone.{Ghosts}
 use Rattle.words.specs.contracts.put as put
 use Rattle.words.specs.contracts.copied as copied
-use Rattle.words.specs.contracts.clear as clear
-use Rattle.words.specs.contracts.clear_bytes as clear-bytes
-use Rattle.words.specs.contracts.one_less as one_less
+use Rattle.meaning.specs.contracts.refusal.Refusal.number as refusal_number
+use Rattle.meaning.specs.contracts.refusal.Refusal.place as refusal_place
+use Rattle.meaning.specs.contracts.refusal.TickRefusal.number as tick_refusal_number
+use Rattle.meaning.specs.contracts.refusal.TickRefusal.place as tick_refusal_place
 use Rattle.term.specs.contracts.store as store
-use Rattle.term.specs.contracts.step as step
-use Rattle.term.specs.contracts.put_guard as put_guard
-use Rattle.term.specs.contracts.without_guard as without_guard
+use Rattle.term.specs.contracts.Alternative.step as step
+use Rattle.term.specs.contracts.Alternative.guard as guard
 use Rattle.tree.specs.contracts.read as read
-use Rattle.tree.specs.contracts.both as both
 use Rattle.tree.specs.contracts.columns as columns
-use Rattle.tree.specs.contracts.is_atom as is_atom
 use Rattle.tree.specs.contracts.checked as checked
 use Rattle.outline.specs.contracts.is_repeated as is_repeated
 use Rattle.outline.specs.contracts.count_of as count_of
@@ -34,25 +35,31 @@ use Rattle.expand.specs.contracts.copies_block as copies_block
 use Rattle.expand.specs.contracts.copy_number as copy_number
 use Rattle.expand.specs.contracts.alternative as alternative
 use Rattle.guards.specs.contracts.guard_words as guard_words
-use Rattle.demands.specs.OneOutcome.{OneOutcome, OneResult}
-use Rattle.demands.proofs.OneOutcome.{same_outcome, same, from_both, from_all, by_an_equation, by_writing, by_equations}
+use Rattle.demands.specs.OneOutcome.{OneOutcome, OneOutcomeUpTo, OneResult}
+use Rattle.demands.proofs.OneOutcome.{same, from_both, from_all, by_an_equation, by_writing, by_equations}
 
 module _ {M : Type 1} {𝓤 : Ura M} (𝓛 : Logic 𝓤) (mem : Memory → SProp 𝓤) (run : Routine → Fun 𝓤) where
-  -- Words put and copied into a slice, and slices cleared.
-  pub words_put_has_one_outcome : OneOutcome 𝓤 put.ended (put.clauses 𝓛 mem run)
-  words_put_has_one_outcome κs a g o o' = by_writing 𝓤 (λ out. (out, (tt, (tt, tt))))
+  -- Words of any type put and copied into a slice.
+  pub words_put_has_one_outcome : (T : RattleType) (clones : Ghosts T.Denot) (dict : Dict)
+      → OneOutcome 𝓤 (put.ended T clones dict) (put.clauses T clones dict 𝓛 mem run)
+  words_put_has_one_outcome T clones dict κs a g o o' = by_writing 𝓤 (λ out. (out, (tt, (tt, tt))))
 
-  pub words_copied_has_one_outcome : OneOutcome 𝓤 copied.ended (copied.clauses 𝓛 mem run)
-  words_copied_has_one_outcome κs a g o o' = by_writing 𝓤 (λ out. (tt, (out, (tt, tt))))
+  pub words_copied_has_one_outcome : (T : RattleType) (clones : Ghosts T.Denot) (dict : Dict)
+      → OneOutcome 𝓤 (copied.ended T clones dict) (copied.clauses T clones dict 𝓛 mem run)
+  words_copied_has_one_outcome T clones dict κs a g o o' = by_writing 𝓤 (λ out. (tt, (out, (tt, tt))))
 
-  pub words_clear_has_one_outcome : OneOutcome 𝓤 clear.ended (clear.clauses 𝓛 mem run)
-  words_clear_has_one_outcome κs a g o o' = from_both 𝓤 (λ p p'. same_outcome (λ work. (work, tt)) refl (same p p'))
+  -- A refusal's number and place.
+  pub refusal_number_has_one_outcome : OneOutcome 𝓤 refusal_number.ended (refusal_number.clauses 𝓛 mem run)
+  refusal_number_has_one_outcome κs a g o o' = by_an_equation 𝓤
 
-  pub words_clear_bytes_has_one_outcome : OneOutcome 𝓤 clear-bytes.ended (clear-bytes.clauses 𝓛 mem run)
-  words_clear_bytes_has_one_outcome κs a g o o' = from_both 𝓤 (λ p p'. same_outcome (λ bytes. (bytes, tt)) refl (same p p'))
+  pub refusal_place_has_one_outcome : OneOutcome 𝓤 refusal_place.ended (refusal_place.clauses 𝓛 mem run)
+  refusal_place_has_one_outcome κs a g o o' = by_an_equation 𝓤
 
-  pub words_one_less_has_one_outcome : OneOutcome 𝓤 one_less.ended (one_less.clauses 𝓛 mem run)
-  words_one_less_has_one_outcome κs a g o o' = by_an_equation 𝓤
+  pub tick_refusal_number_has_one_outcome : OneOutcome 𝓤 tick_refusal_number.ended (tick_refusal_number.clauses 𝓛 mem run)
+  tick_refusal_number_has_one_outcome κs a g o o' = by_an_equation 𝓤
+
+  pub tick_refusal_place_has_one_outcome : OneOutcome 𝓤 tick_refusal_place.ended (tick_refusal_place.clauses 𝓛 mem run)
+  tick_refusal_place_has_one_outcome κs a g o o' = by_an_equation 𝓤
 
   -- An alternative that is kept in words.
   pub term_store_has_one_outcome : OneOutcome 𝓤 store.ended (store.clauses 𝓛 mem run)
@@ -61,24 +68,15 @@ module _ {M : Type 1} {𝓤 : Ura M} (𝓛 : Logic 𝓤) (mem : Memory → SProp
   pub term_step_has_one_outcome : OneOutcome 𝓤 step.ended (step.clauses 𝓛 mem run)
   term_step_has_one_outcome κs a g o o' = by_an_equation 𝓤
 
-  pub term_put_guard_has_one_outcome : OneOutcome 𝓤 put_guard.ended (put_guard.clauses 𝓛 mem run)
-  term_put_guard_has_one_outcome κs a g o o' = by_writing 𝓤 (λ out. (tt, (tt, (out, (tt, tt)))))
-
-  pub term_without_guard_has_one_outcome : OneOutcome 𝓤 without_guard.ended (without_guard.clauses 𝓛 mem run)
-  term_without_guard_has_one_outcome κs a g o o' = by_an_equation 𝓤
+  pub term_guard_has_one_outcome : OneOutcomeUpTo 𝓤 guard.ended (guard.clauses 𝓛 mem run) (λ κs a o o'. o.result.now ≡ o'.result.now)
+  term_guard_has_one_outcome κs a g o o' = from_both 𝓤 same
 
   -- The table and its checks.
   pub tree_read_has_one_outcome : OneOutcome 𝓤 read.ended (read.clauses 𝓛 mem run)
   tree_read_has_one_outcome κs a g o o' = by_an_equation 𝓤
 
-  pub tree_both_has_one_outcome : OneOutcome 𝓤 both.ended (both.clauses 𝓛 mem run)
-  tree_both_has_one_outcome κs a g o o' = by_an_equation 𝓤
-
   pub tree_columns_has_one_outcome : OneOutcome 𝓤 columns.ended (columns.clauses 𝓛 mem run)
   tree_columns_has_one_outcome κs a g o o' = by_an_equation 𝓤
-
-  pub tree_is_atom_has_one_outcome : OneOutcome 𝓤 is_atom.ended (is_atom.clauses 𝓛 mem run)
-  tree_is_atom_has_one_outcome κs a g o o' = by_an_equation 𝓤
 
   pub tree_checked_has_one_outcome : OneOutcome 𝓤 checked.ended (checked.clauses 𝓛 mem run)
   tree_checked_has_one_outcome κs a g o o' = by_an_equation 𝓤

@@ -5,15 +5,16 @@ use mathlib.Core.List.{List}
 use Prim.Native.Nat.{ℕ}
 use lib.ListN.{length}
 use Rattle.meaning.specs.Tick.{AlikeWhereNamed}
-use Rattle.meaning.specs.declared.Ticked.{Ticked}
 use Rattle.meaning.proofs.UnnamedAtoms.{unnamed_atoms_change_no_answer, unnamed_atoms_change_no_register}
 use Rattle.tick.specs.Stepped.{Stepped}
 use Rattle.sva_c.specs.Boundary.{TicksForC}
 use Rattle.demands.proofs.RunsForC.{a_tick_for_C_is_a_tick}
+use Rattle.std.specs.Prelude.{Result}
+use Rattle.meaning.specs.declared.refusal.TickRefusal.{TickRefusal}
 
 module _ {ws cur atoms atoms' next next₁ next₂ stack stack₁ stack₂ : List ℕ} where
   -- Neither the answer nor what is left in next and in the stack.
-  pub an_atom_that_the_listing_never_names_changes_nothing : {r₁ r₂ : Ticked} → AlikeWhereNamed ws atoms atoms'
+  pub an_atom_that_the_listing_never_names_changes_nothing : {r₁ r₂ : Result ℕ TickRefusal} → AlikeWhereNamed ws atoms atoms'
       → Stepped ws cur atoms next next₁ stack stack₁ r₁ → Stepped ws cur atoms' next next₂ stack stack₂ r₂
       → (r₁ ≡ r₂) × (next₁ ≡ next₂) × (stack₁ ≡ stack₂)
   an_atom_that_the_listing_never_names_changes_nothing {r₁} {r₂} alike one two =

@@ -2,15 +2,15 @@
 use mathlib.Core.Path.{◌≡◌, refl, sym, ap, ◌∙◌}
 use mathlib.Core.Bool.{Bool, true, false}
 use mathlib.Core.List.{List, [], ◌∷◌}
-use Prim.Native.Nat.{ℕ, zero, suc, ◌+◌, ◌*◌, ◌-◌, ◌<◌, ◌≤◌}
+use Prim.Native.Nat.{ℕ, zero, suc, ◌<◌, ◌≤◌}
 use native.Mathlib.Omega.{arith}
 use native.Mathlib.Decide.{ℕ_discrete}
 use lib.Dec.{leb}
 use lib.ListN.{length}
-use borrow.Author.Tests.{lt-ltb, le-ltb, ne_eqb, leb-false}
+use borrow.Author.Tests.{lt-ltb, leb-false}
 use Rattle.words.specs.Choice.{pick}
 use Rattle.meaning.specs.declared.Node.{Node}
-use Rattle.meaning.specs.declared.SeqTerm.TheVariants.{Bool as BoolTerm, Goto, Nonconsec, ConsecAtLeast, Empty}
+use Rattle.meaning.specs.declared.SeqTerm.TheVariants.{Bool as BoolTerm, Goto, Nonconsec}
 use Rattle.meaning.specs.Tree.{finite, Seq, consec, Operand, boolean, operand, node_at, unlimited, max_of, tree_at, nodes}
 use Rattle.meaning.specs.Alternative.{SeqAlt, single, join_hops, hops, consec_finite, over, consec_unbounded, guard_each, expand}
 use Rattle.meaning.specs.Lowerable.{WellFormed, FormedTable, IsBoolean, Walkable}
@@ -210,29 +210,3 @@ module _ {t : List ℕ} {n : ℕ} (E : Expandable t n) where
               (λ k. words.consec_under k)
               (λ k. words.goto_under k)
               (λ k. words.nonconsec_under k)
-
--- `single_term`, which has the operand's words under the name b and the Empties under the name e.
-module _ (t : List ℕ) (v : Node) where
-  pub operand_read_inside : OperandInside t v → (v.kind ≡ 1 → ⊥) → v.p * 5 + 5 ≤ length t
-  operand_read_inside O x = O.inside x
-
-  pub operand_read_few : OperandInside t v → (v.kind ≡ 1 → ⊥) → v.p < 4096
-  operand_read_few O x = O.few x
-
-  module _ {b : Node} (i : ℕ) (x : v.kind ≡ 1 → ⊥) (r : b ≡ node_at t v.p) where
-    pub goto_term : v.kind ≡ 4 → Goto b.p v.min ≡ single_term t v i
-    unfolding single_term pick
-    goto_term k = rw (k, r) refl
-
-    pub nonconsec_term : v.kind ≡ 5 → Nonconsec b.p v.min ≡ single_term t v i
-    unfolding single_term pick
-    nonconsec_term k = rw (k, r) refl
-
-    module _ {e : ℕ} (y : v.kind ≡ 4 → ⊥) (z : v.kind ≡ 5 → ⊥) (q : e ≡ empties v.min) where
-      pub empty_term : i < e → Empty ≡ single_term t v i
-      unfolding single_term pick
-      empty_term l = rw (ne_eqb _ _ x, ne_eqb _ _ y, ne_eqb _ _ z, ← q, lt-ltb _ _ l) refl
-
-      pub run_term : {m : ℕ} → e ≤ i → m ≡ v.min - 1 → ConsecAtLeast b.p (m + 1) ≡ single_term t v i
-      unfolding single_term pick
-      run_term l s = rw (ne_eqb _ _ x, ne_eqb _ _ y, ne_eqb _ _ z, ← q, le-ltb _ _ l, r, s) refl

@@ -246,13 +246,13 @@ module _ {t o : List ℕ} {n k i : ℕ} (C : OutlinedCopies t o n k i) where
   pub copy_some : 0 < count_in o n
   copy_some = rw (count_known E'' C.known) (some_alternatives E'')
 
-  -- The loops have each copy as the next of those that are left.
-  pub copy_few : {left : ℕ} → left ≤ k + 1 → 0 < left → copies_count (count_in o n) (left - 1) ≤ 256
+  -- The loops have each copy with those that follow it.
+  pub copy_few : {later : ℕ} → later ≤ k → copies_count (count_in o n) later ≤ 256
   unfolding copies_of
-  copy_few {left} h m =
+  copy_few {later} h =
       let a = length (alternatives_of t n) in
       rw (count_known E'' C.known)
-      (omega (arith, copies_monotone a (left - 1) k (some_alternatives E'') (omega arith), length-copies (alternatives_of t n) k, C.numbered.few_numbers))
+      (omega (arith, copies_monotone a later k (some_alternatives E'') h, length-copies (alternatives_of t n) k, C.numbered.few_numbers))
 
   pub copy_numbered : (later : ℕ) {d : ℕ} → d ≡ copy_number (count_in o n) i later → OutlinedNumber t o n d
   copy_numbered later e = record {

@@ -2,7 +2,7 @@
 -- of it without the [*1] over it, and that its operands are known too.
 use mathlib.Core.Path.{◌≡◌, refl, sym, ap, ◌∙◌}
 use mathlib.Core.List.{List, append-nil}
-use Prim.Native.Nat.{ℕ, zero, suc, ◌+◌, ◌-◌, ◌<◌, ◌≤◌, ◌/◌, ◌%◌}
+use Prim.Native.Nat.{ℕ, zero, suc, ◌-◌, ◌<◌, ◌≤◌, ◌/◌, ◌%◌}
 use native.Mathlib.Omega.{arith}
 use native.Mathlib.Nat.{div-eq_of_lt, mod-eq_of_lt, div-div-eq-div-mul, mul_comm}
 use native.Mathlib.Decide.{ℕ_discrete}
@@ -17,9 +17,7 @@ use Rattle.outline.specs.Outline.{is_once, bare, count_in, bare_in, Outlined, Ex
 use Rattle.outline.proofs.Laws.{Repetition}
 use Rattle.outline.proofs.ByWords.{is_atom, is_delay, is_finite, is_unbounded, is_goto, is_nonconsec, is_throughout}
 use Rattle.outline.proofs.Readers.{count_known as count_read, bare_known}
-use Rattle.expand.specs.declared.Parts.{Parts}
-use Rattle.expand.specs.declared.Block.{Block}
-use Rattle.expand.specs.ByNumber.{alternatives_of, hop_at, parts_of, delay_parts, copies_count, block_of, copies_block, empties, copy_number, DelayCounted, CopiesCounted}
+use Rattle.expand.specs.ByNumber.{alternatives_of, hop_at, parts_of, delay_parts, copies_count, copy_number, DelayCounted}
 use Rattle.expand.proofs.Arithmetic.{copies_monotone}
 use Rattle.expand.proofs.ByKind.{no_within, copied_expandable, repeated_alternatives}
 
@@ -106,15 +104,7 @@ module _ {t o : List ℕ} where
   pub bare_found : {n m : ℕ} → Expandable t n → Known t o n → m ≡ bare_in o n → Bared t o n m
   bare_found {n} E K e = rw (e, bare_known E K) (bared (suc n) n (omega arith) E K)
 
--- ---- what the counts in the outline say of a number: `delay_parts`, `copies_block` and `copy_number`, which have them as a and b
-
-module _ (o : List ℕ) (v : Node) (i : ℕ) {a b : ℕ} (p : a ≡ count_in o v.p) (q : b ≡ count_in o v.q) where
-  pub hop_found_small : DelayCounted o v i → v.min + i / b / a < 4294967296
-  hop_found_small D = rw (p, q) D.hop_small
-
-  pub parts_found : {s : Parts} → s ≡ parts_of v.min v.max i a b → s ≡ delay_parts o v i
-  unfolding delay_parts
-  parts_found c = c ∙ rw (p, q) refl
+-- ---- what the counts in the outline say of a number: `delay_parts` and `copy_number`
 
 -- Number 0 has no other digit than 0.
 zero_divided : {a : ℕ} → 0 < a → 0 / a ≡ 0
@@ -132,14 +122,6 @@ pub zero_copy_number : {a i : ℕ} (later : ℕ) → 0 < a → i ≡ 0 → 0 ≡
 unfolding copy_number
 zero_copy_number zero h e = rw (e, zero_left h) refl
 zero_copy_number {a = a} (suc later) h e = rw (e, zero_divided h) (zero_copy_number {a = a} {i = 0} later h refl)
-
-module _ (o : List ℕ) (v : Node) (i : ℕ) {a : ℕ} (p : a ≡ count_in o v.p) where
-  pub first_copies_found_few : CopiesCounted o v i → copies_count a (v.min - 1) ≤ 256
-  first_copies_found_few C = rw p C.first_few
-
-  pub block_found : {b : Block} → b ≡ block_of a (v.min - 1) (v.max - (v.min - 1) - 1) (i - empties v.min) → b ≡ copies_block o v i
-  unfolding copies_block
-  block_found c = c ∙ rw p refl
 
 -- A copy that others follow: they are divided away at one stroke.
 copy_weight : (a i later : ℕ) → copy_number a i (suc later) ≡ i / copies_count a later % a
@@ -167,3 +149,5 @@ module _ (o : List ℕ) (n i : ℕ) {a later : ℕ} (p : a ≡ count_in o n) whe
     pub weight_some : {w : ℕ} → 0 < count_in o n → w ≡ copies_count a (later - 1) → 0 < w
     unfolding copies_count
     weight_some h e = rw (e, p) (omega (arith, copies_monotone (count_in o n) 0 (later - 1) h (omega arith)))
+
+pub ruleset copy_numbers = (zero_copy_number, last_copy_found, weight_few, weight_some, earlier_copy_found)

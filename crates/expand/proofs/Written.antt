@@ -6,10 +6,9 @@ use mathlib.Core.List.{List, [], ◌∷◌, ◌++◌, append_assoc, append-nil}
 use Prim.Native.Nat.{ℕ, zero, suc, ◌+◌, ◌-◌, ◌<◌, ◌≤◌, ◌/◌, ◌%◌}
 use native.Mathlib.Omega.{arith}
 use native.Mathlib.Nat.{mod-eq_of_lt}
-use native.Mathlib.Numerals.{add-one}
 use lib.ListN.{length, length-append}
 use Rattle.words.specs.Written.{Wrote}
-use Rattle.words.proofs.Laws.{same_words, first_room, second_room, both_done, Going, begin, go, done}
+use Rattle.words.proofs.Laws.{same_words, first_room, second_room, both_done, Going, begin, go, last}
 use Rattle.term.specs.Steps.{step_words, steps_words}
 use Rattle.term.proofs.Round.{length-step_words}
 use Rattle.meaning.specs.declared.Node.{Node}
@@ -21,7 +20,7 @@ use Rattle.meaning.specs.Tree.{node_at, tree_at}
 use Rattle.meaning.specs.Alternative.{SeqAlt, step, single, rehop, joined, expand, copies}
 use Rattle.expand.specs.declared.Parts.{Parts}
 use Rattle.expand.specs.declared.Block.{Block}
-use Rattle.expand.specs.ByNumber.{alternatives_of, copies_of, nth, alternative_words, is_copies, single_term, copy_number, delay_parts, copies_block, NumberedCopies, OutlinedNumber, OutlinedCopies}
+use Rattle.expand.specs.ByNumber.{alternatives_of, copies_of, nth, alternative_words, is_copies, single_term, copy_number, delay_parts, copies_block, OutlinedNumber, OutlinedCopies}
 use Rattle.outline.specs.Outline.{count_in, bare_in}
 use Rattle.expand.proofs.Every.{has_step, each_expanded, each_copies, each_nth}
 use Rattle.expand.proofs.ByKind.{some_alternatives, atom_alternative, single_alternative}
@@ -172,30 +171,28 @@ module _ {t q : List ℕ} {n i : ℕ} {v : Node} (h : SeqHop) (o : List ℕ) (at
 
 -- ---- several copies, the earliest first
 
--- The words of the copies that are left, the next of them reached by h.
+-- The words of the copies that are left, the next of them, which so many follow, reached by h.
 pub copies_left : List ℕ → ℕ → ℕ → SeqHop → ℕ → List ℕ
-copies_left t n i h zero = []
+copies_left t n i h zero = node_words t n h (copy_number (length (alternatives_of t n)) i zero)
 copies_left t n i h (suc later) =
-    node_words t n h (copy_number (length (alternatives_of t n)) i later) ++ copies_left t n i (Fixed 1) later
+    node_words t n h (copy_number (length (alternatives_of t n)) i (suc later)) ++ copies_left t n i (Fixed 1) later
 
 -- The words of the last copy stand behind those of the number that is left without it.
 last_of_them : (t : List ℕ) (n i : ℕ) (h : SeqHop) (later : ℕ)
-    → let a = length (alternatives_of t n) in copies_left t n i h (suc (suc later)) ≡ copies_left t n (i / a) h (suc later) ++ node_words t n (Fixed 1) (i % a)
+    → let a = length (alternatives_of t n) in copies_left t n i h (suc later) ≡ copies_left t n (i / a) h later ++ node_words t n (Fixed 1) (i % a)
 unfolding copies_left copy_number
-last_of_them t n i h zero =
-    let a = length (alternatives_of t n) in
-    rw (append-nil (node_words t n (Fixed 1) (i % a)), append-nil (node_words t n h (i / a % a))) refl
+last_of_them t n i h zero = refl
 last_of_them t n i h (suc later) =
     let a = length (alternatives_of t n) in
     let next = node_words t n h (copy_number a (i / a) (suc later)) in
     ap (λ (l : List ℕ). next ++ l) (last_of_them t n i (Fixed 1) later)
-    ∙ sym (append_assoc next (copies_left t n (i / a) (Fixed 1) (suc later)) (node_words t n (Fixed 1) (i % a)))
+    ∙ sym (append_assoc next (copies_left t n (i / a) (Fixed 1) later) (node_words t n (Fixed 1) (i % a)))
 
 -- The words of all copies are those of the copies' alternative.
 all_of_them : (t : List ℕ) (n k i : ℕ) (h : SeqHop) → 0 < length (alternatives_of t n) → i < length (copies_of (alternatives_of t n) k)
-    → copies_words t n k h i ≡ copies_left t n i h (suc k)
+    → copies_words t n k h i ≡ copies_left t n i h k
 unfolding copies_left copies_of copy_number
-all_of_them t n zero i h p q = rw (mod-eq_of_lt q) (sym (append-nil (node_words t n h i)))
+all_of_them t n zero i h p q = rw (mod-eq_of_lt q) refl
 all_of_them t n (suc k) i h p q =
     let base = alternatives_of t n in
     let a = length base in
@@ -203,41 +200,44 @@ all_of_them t n (suc k) i h p q =
     ∙ ap (λ (l : List ℕ). l ++ node_words t n (Fixed 1) (i % a)) (all_of_them t n k (i / a) h p (copies_index base k i p q))
     ∙ sym (last_of_them t n i h k)
 
--- The loop of `repeated`: it remains to put the copies that are left, the next of them reached by `hop`.
-pub record Repeating (t : List ℕ) (n k i : ℕ) (h : SeqHop) (o : List ℕ) (at : ℕ) (o' : List ℕ) (hop : SeqHop) (p left : ℕ) : Type 0 where
-  pub few : left ≤ k + 1
-  pub long : length o' ≡ length o
-  pub going : Going o at (copies_words t n k h i) o' p (copies_left t n i hop left)
+-- The next copy's words are no more than those of all that are left.
+next_is_short : (t : List ℕ) (n i : ℕ) (h : SeqHop) (later : ℕ)
+    → length (node_words t n h (copy_number (length (alternatives_of t n)) i later)) ≤ length (copies_left t n i h later)
+unfolding copies_left
+next_is_short t n i h zero = omega arith
+next_is_short t n i h (suc later) =
+    omega (arith, length-append (node_words t n h (copy_number (length (alternatives_of t n)) i (suc later))) (copies_left t n i (Fixed 1) later))
 
-pub repeating_begins : {t : List ℕ} {n k i : ℕ} (h : SeqHop) (o : List ℕ) (at : ℕ) → NumberedCopies t n k i
-    → Repeating t n k i h o at o h at (k + 1)
-repeating_begins {t} {n} {k} {i} h o at C = record {
-  few = omega arith;
-  long = refl;
-  going = rw (add-one k, ← all_of_them t n k i h (some_alternatives C.node) C.index) (begin o at _);
-}
+-- The loop of `repeated`: it remains to put the copies that are left, the next of them, which `later` follow, reached by `hop`.
+pub record Repeating (t : List ℕ) (n k i : ℕ) (h : SeqHop) (o : List ℕ) (at : ℕ) (o' : List ℕ) (hop : SeqHop) (p later : ℕ) : Type 0 where
+  pub going : Going o at (copies_words t n k h i) o' p (copies_left t n i hop later)
 
-module _ {t q : List ℕ} {n k i : ℕ} {h : SeqHop} {o : List ℕ} {at : ℕ} {o' : List ℕ} {hop : SeqHop} {p left d : ℕ}
-    (C : OutlinedCopies t q n k i) (R : Repeating t n k i h o at o' hop p left) (m : 0 < left)
-    (e : d ≡ copy_number (count_in q n) i (left - 1)) where
-  -- The words of the copies that are left are those of the next copy, then those of the others.
-  next_of_them : copies_left t n i hop left ≡ node_words t n hop d ++ copies_left t n i (Fixed 1) (left - 1)
-  unfolding copies_left
-  next_of_them =
-      let s : left ≡ suc (left - 1) = omega arith in
-      ap (copies_left t n i hop) s ∙ rw (copy_counted C (left - 1) e) refl
+pub repeating_begins : {t q : List ℕ} {n k i : ℕ} (h : SeqHop) (o : List ℕ) (at : ℕ) → OutlinedCopies t q n k i
+    → Repeating t n k i h o at o h at k
+repeating_begins {t} {n = n} {k} {i} h o at C =
+    let N = C.numbered in
+    record { going = rw (← all_of_them t n k i h (some_alternatives N.node) N.index) (begin o at _) }
 
+module _ {t q : List ℕ} {n k i : ℕ} {h : SeqHop} {o : List ℕ} {at : ℕ} {o' : List ℕ} {hop : SeqHop} {p later d : ℕ}
+    (C : OutlinedCopies t q n k i) (R : Repeating t n k i h o at o' hop p later)
+    (e : d ≡ copy_number (count_in q n) i later) where
   pub copy_room : at + length (copies_words t n k h i) ≤ length o → p + length (node_words t n hop d) ≤ length o'
   copy_room room =
-      omega (arith, room, R.long, R.going.place, ap length next_of_them, length-append (node_words t n hop d) (copies_left t n i (Fixed 1) (left - 1)))
+      omega (arith, room, R.going.long, R.going.place, next_is_short t n i hop later, ap (λ (z : ℕ). length (node_words t n hop z)) (copy_counted C later e))
 
-  pub repeating_on : {o'' : List ℕ} {z : ℕ} → Wrote o' o'' p z (node_words t n hop d)
-      → Repeating t n k i h o at o'' (Fixed 1) z (left - 1)
-  repeating_on x =
-      let next = go (node_words t n hop d) (copies_left t n i (Fixed 1) (left - 1)) (rw next_of_them at R.going) x in
-      record { few = omega (arith, R.few); long = next.long; going = next }
+  module _ {o'' : List ℕ} {z : ℕ} (x : Wrote o' o'' p z (node_words t n hop d)) where
+    pub repeating_on : 0 < later → Repeating t n k i h o at o'' (Fixed 1) z (later - 1)
+    unfolding copies_left
+    repeating_on m =
+        let s : later ≡ suc (later - 1) = omega arith in
+        let left : copies_left t n i hop later ≡ node_words t n hop d ++ copies_left t n i (Fixed 1) (later - 1) =
+        ap (copies_left t n i hop) s ∙ rw (copy_counted C later e, ← s) refl in
+        record { going = go (node_words t n hop d) (copies_left t n i (Fixed 1) (later - 1)) (rw left at R.going) x }
 
-pub repeating_ends : {t : List ℕ} {n k i : ℕ} {h : SeqHop} {o : List ℕ} {at : ℕ} {o' : List ℕ} {hop : SeqHop} {p left : ℕ}
-    → Repeating t n k i h o at o' hop p left → left ≤ 0 → Wrote o o' at p (copies_words t n k h i)
-unfolding copies_left
-repeating_ends {left = left} R m = let z : left ≡ 0 = omega arith in done (rw z at R.going)
+    pub repeating_ends : later ≤ 0 → Wrote o o'' at z (copies_words t n k h i)
+    unfolding copies_left
+    repeating_ends m =
+        let s : later ≡ 0 = omega arith in
+        let left : copies_left t n i hop later ≡ node_words t n hop d =
+        ap (copies_left t n i hop) s ∙ rw (copy_counted C later e, s) refl in
+        last (rw left at R.going) x

@@ -13,11 +13,12 @@ use Rattle.words.specs.Choice.{pick, pick_true, pick_false, pick_case}
 use Rattle.words.specs.Written.{Wrote}
 use Rattle.words.proofs.Laws.{Going, begin, go, done, same_words, still_long, front_written, nothing_written}
 use Rattle.meaning.specs.Lower.{words_of, lower, output_after}
-use Rattle.meaning.specs.declared.Lowered.{Lowered}
-use Rattle.meaning.specs.declared.Lowered.TheVariants.{Listing, Refused}
 use Rattle.meaning.proofs.ListingAnswer.{a_listed_table_passed_all}
 use Rattle.lower.specs.Answers.{Lowers}
 use Rattle.frame.specs.Assertions.{node, hot_kept, good_replaced, wrong_in_row, wrong_at_start, words_in, tree_of, listed_by, listed}
+use Rattle.std.specs.Prelude.{Result, Ok, Err}
+use Rattle.meaning.specs.declared.Listing.{Listing}
+use Rattle.meaning.specs.declared.refusal.Refusal.{Refusal}
 
 -- The first n nodes are put; what remains is the others' words.
 pub record Planting (nodes : List (List ℕ)) (o o' : List ℕ) (place n : ℕ) : Type 0 where
@@ -90,12 +91,12 @@ module _ (number : ℕ) {o o' : List ℕ} {words : ℕ} where
   unfolding tree_of
   first_tree e w = same_words (sym (pick_true _ _ (eq-eqb number 1 e))) w
 
-  pub second_tree : (number ≡ 1 → ⊥) → number ≡ 2 → Wrote o o' 0 words (words_in good_replaced) → Wrote o o' 0 words (tree_of number)
+  pub second_tree : number ≡ 2 → Wrote o o' 0 words (words_in good_replaced) → Wrote o o' 0 words (tree_of number)
   unfolding tree_of
-  second_tree one e w = same_words (sym (pick_false _ _ (ne_eqb number 1 one) ∙ pick_true _ _ (eq-eqb number 2 e))) w
+  second_tree e w = same_words (sym (pick_false _ _ (ne_eqb number 1 (λ q. omega arith)) ∙ pick_true _ _ (eq-eqb number 2 e))) w
 
-  pub third_tree : (number ≡ 1 → ⊥) → (number ≡ 2 → ⊥) → number ≡ 3 → Wrote o o' 0 words (words_in wrong_in_row) → Wrote o o' 0 words (tree_of number)
-  third_tree one two e w = same_words (sym (past_two number one two ∙ pick_true _ _ (eq-eqb number 3 e))) w
+  pub third_tree : number ≡ 3 → Wrote o o' 0 words (words_in wrong_in_row) → Wrote o o' 0 words (tree_of number)
+  third_tree e w = same_words (sym (past_two number (λ q. omega arith) (λ q. omega arith) ∙ pick_true _ _ (eq-eqb number 3 e))) w
 
   pub fourth_tree : (number ≡ 1 → ⊥) → (number ≡ 2 → ⊥) → (number ≡ 3 → ⊥) → Wrote o o' 0 words (words_in wrong_at_start) → Wrote o o' 0 words (tree_of number)
   fourth_tree one two e w = same_words (sym (past_two number one two ∙ pick_false _ _ (ne_eqb number 3 e))) w
@@ -117,23 +118,23 @@ module _ (number : ℕ) {o tree : List ℕ} {words : ℕ} (long : length o ≡ 2
   assertion_listed work {out} v = same_words (ap (λ (t : List ℕ). listed t work (length out)) tree_planted) v
 
 -- What a tree lowers to: nothing where it is refused, else the words of its listing, which find room.
-module _ {t work out : List ℕ} {answer : Lowered} {work' out' : List ℕ} (L : Lowers t 0 work out answer work' out') where
-  pub nothing_listed : {number place : ℕ} → answer ≡ Refused number place → Wrote out out' 0 0 (listed t (length work) (length out))
+module _ {t work out : List ℕ} {answer : Result Listing Refusal} {work' out' : List ℕ} (L : Lowers t 0 work out answer work' out') where
+  pub nothing_listed : {refusal : Refusal} → answer ≡ Err refusal → Wrote out out' 0 0 (listed t (length work) (length out))
   unfolding listed listed_by output_after
   nothing_listed e = rw (← L.answers, L.holds, e) (nothing_written out 0)
 
-  pub words_listed : {registers words deepest : ℕ} → answer ≡ Listing registers words deepest → Wrote out out' 0 words (listed t (length work) (length out))
+  pub words_listed : {listing : Listing} → answer ≡ Ok listing → Wrote out out' 0 listing.words (listed t (length work) (length out))
   unfolding listed listed_by output_after words_of
-  words_listed {registers} {words} {deepest} e =
-      let fitting = (a_listed_table_passed_all t (length work) (length out) 0 registers words deepest (sym L.answers ∙ e)).fitting in
+  words_listed {listing} e =
+      let fitting = (a_listed_table_passed_all t (length work) (length out) 0 listing.registers listing.words listing.deepest (sym L.answers ∙ e)).fitting in
       rw (← L.answers, L.holds, e) (record { holds = refl; ends = omega (arith, fitting.words_are) })
 
-listed_few : (answer : Lowered) (t : List ℕ) (work out : ℕ) → lower t work out 0 ≡ answer → length (listed_by answer t) ≤ out
+listed_few : (answer : Result Listing Refusal) (t : List ℕ) (work out : ℕ) → lower t work out 0 ≡ answer → length (listed_by answer t) ≤ out
 unfolding listed_by words_of
-listed_few (Listing registers words deepest) t work out e =
-    let fitting = (a_listed_table_passed_all t work out 0 registers words deepest e).fitting in
+listed_few (Ok listing) t work out e =
+    let fitting = (a_listed_table_passed_all t work out 0 listing.registers listing.words listing.deepest e).fitting in
     omega (arith, fitting.words_are, fitting.long_enough)
-listed_few (Refused number place) t work out e = omega arith
+listed_few (Err refusal) t work out e = omega arith
 
 pub listed_fits : (t : List ℕ) (work out : ℕ) → length (listed t work out) ≤ out
 unfolding listed

@@ -5,15 +5,13 @@ use mathlib.Core.List.{List}
 use Prim.Native.Nat.{ℕ, suc, ◌+◌, ◌-◌, ◌≤◌, ◌<◌}
 use native.Mathlib.Omega.{arith}
 use native.Mathlib.Decide.{dec_le}
-use lib.ListN.{length, get_or, set, take, replicate, length-replicate}
-use lib.Seq.{take_all, length-take-le}
+use lib.ListN.{length, take, replicate, length-replicate}
+use lib.Seq.{length-take-le}
 use borrow.Author.Tests.{lt-ltb, le-ltb, le-leb, lt-leb, eq-eqb, ne_eqb}
 use Rattle.words.specs.Choice.{pick_true, pick_false}
-use Rattle.words.specs.Written.{written, Wrote}
-use Rattle.words.proofs.Laws.{Copying, copying_on, copying_ends, front_written, length-written, still_long}
+use Rattle.words.specs.Written.{Wrote}
+use Rattle.words.proofs.Laws.{front_written, length-written, still_long}
 use Rattle.meaning.specs.Tick.{tick, next_after, stack_left}
-use Rattle.meaning.specs.declared.Ticked.{Ticked}
-use Rattle.meaning.specs.declared.Ticked.TheVariants.{Match, Refused as RefusedTick}
 use Rattle.tick.specs.Stepped.{Stepped as Ticks}
 use Rattle.correction.specs.Map.{Reached}
 use Rattle.correction.specs.Rows.{row_of, column_of, Stepped}
@@ -28,6 +26,8 @@ use Rattle.frame.specs.Watched.{picture, pixel_of, leaving_at, atoms_of, said, w
 use Rattle.frame.specs.declared.Verdict.{Verdict}
 use Rattle.frame.specs.declared.Verdict.TheVariants.{Quiet, Alarm, Refused}
 use Rattle.frame.proofs.AssertionLaws.{listed_fits}
+use Rattle.std.specs.Prelude.{Result, Ok, Err}
+use Rattle.meaning.specs.declared.refusal.TickRefusal.{TickRefusal}
 
 -- What the sensor reads, during the frame and after it.
 pub after_the_frame : (t : ℕ) → 360960 ≤ t → 0 ≡ pixel_of t
@@ -38,32 +38,23 @@ pub during_the_frame : (t : ℕ) {row column r : ℕ} → t < 360960 → row ≡
 unfolding picture
 during_the_frame t h e f q = q ∙ rw (e, f) (sym (pick_false _ _ (lt-leb 480 (row_of t) (omega arith))))
 
--- A byte more is copied; then all are.
-pub copy_on : {from o o' : List ℕ} {i : ℕ} → Copying from o 0 o' i i → i < length o' → length from ≡ length o
-    → Copying from o 0 (set o' i (get_or from i 0)) (i + 1) (i + 1)
-unfolding written
-copy_on c h e = copying_on c (omega (arith, c.long)) (record { holds = refl; ends = refl })
-
-pub copy_ends : {from o o' : List ℕ} {i : ℕ} → Copying from o 0 o' i i → length o' ≤ i → length from ≡ length o → o' ≡ from
-copy_ends {from} {o} {o'} {i} c h e = sym (take_all i o' h) ∙ front_written (copying_ends c (omega (arith, c.long))) (omega arith)
-
 -- A tick whose registers are copied.
-pub advanced : {ws cur atoms next next' stack stack' cur' : List ℕ} {r : Ticked} → Ticks ws cur atoms next next' stack stack' r → cur' ≡ next'
+pub advanced : {ws cur atoms next next' stack stack' cur' : List ℕ} {r : Result ℕ TickRefusal} → Ticks ws cur atoms next next' stack stack' r → cur' ≡ next'
     → Advanced ws cur cur' atoms next next' stack stack' r
 advanced s e = record { answer = s.answer; next_holds = s.next_holds; cur_holds = e; stack_holds = s.stack_holds }
 
-length-next : (r : Ticked) (ws cur atoms next : List ℕ) → length (next_after r ws cur atoms next) ≡ length next
+length-next : (r : Result ℕ TickRefusal) (ws cur atoms next : List ℕ) → length (next_after r ws cur atoms next) ≡ length next
 unfolding next_after
-length-next (Match bit) ws cur atoms next = length-written next 0 _
-length-next (RefusedTick number place) ws cur atoms next = refl
+length-next (Ok bit) ws cur atoms next = length-written next 0 _
+length-next (Err refusal) ws cur atoms next = refl
 
-length_stack : (r : Ticked) (stack : List ℕ) → length (stack_left r stack) ≡ length stack
+length_stack : (r : Result ℕ TickRefusal) (stack : List ℕ) → length (stack_left r stack) ≡ length stack
 unfolding stack_left
-length_stack (Match bit) stack = length-replicate {A = ℕ} (length stack) 0
-length_stack (RefusedTick number place) stack = refl
+length_stack (Ok bit) stack = length-replicate {A = ℕ} (length stack) 0
+length_stack (Err refusal) stack = refl
 
 -- Both slices of registers are as long after a tick as before, and so is the stack.
-pub next_stays_long : {ws cur cur' atoms next next' stack stack' : List ℕ} {r : Ticked} → Advanced ws cur cur' atoms next next' stack stack' r
+pub next_stays_long : {ws cur cur' atoms next next' stack stack' : List ℕ} {r : Result ℕ TickRefusal} → Advanced ws cur cur' atoms next next' stack stack' r
     → length next' ≡ length next
 next_stays_long {ws} {cur} {atoms = atoms} {next} {r = r} A = ap length A.next_holds ∙ length-next r ws cur atoms next
 
@@ -108,7 +99,7 @@ watching_begins ws rows stack R r s = record {
 module _ {map ws rows cur next stack : List ℕ} {reached t : ℕ} (W : Watching map ws rows cur next stack reached t) (h : t < 360962)
     {rows' : List ℕ} {pixel : ℕ} {given : Output} (p : pixel ≡ pixel_of t) (S : Stepped map rows rows' t pixel given)
     {atoms : List ℕ} (a : atoms ≡ atoms_at t pixel given.leaving)
-    {cur' next' stack' : List ℕ} {r : Ticked} (A : Advanced ws cur cur' atoms next next' stack stack' r) where
+    {cur' next' stack' : List ℕ} {r : Result ℕ TickRefusal} (A : Advanced ws cur cur' atoms next next' stack stack' r) where
   stepped : Stepped map rows rows' t (pixel_of t) given
   stepped = rw (← p) S
 
@@ -134,15 +125,15 @@ module _ {map ws rows cur next stack : List ℕ} {reached t : ℕ} (W : Watching
       let e : 360962 - t ≡ suc (360962 - (t + 1)) = omega arith in
       W.rest ∙ one_tick (atoms_of map) ws t cur e ∙ rw (← answer_is, ← registers_are) refl
 
-  pub refused_there : {number place : ℕ} → r ≡ RefusedTick number place → Refused ≡ verdict_on map ws
+  pub refused_there : {refusal : TickRefusal} → r ≡ Err refusal → Refused ≡ verdict_on map ws
   unfolding said
   refused_there e = sym (this_tick ∙ rw e refl)
 
-  pub alarm_there : {bit : ℕ} → r ≡ Match bit → bit ≡ 1 → Alarm t ≡ verdict_on map ws
+  pub alarm_there : {bit : ℕ} → r ≡ Ok bit → bit ≡ 1 → Alarm t ≡ verdict_on map ws
   unfolding said
   alarm_there {bit} e q = sym (this_tick ∙ rw e (pick_true _ _ (eq-eqb bit 1 q)))
 
-  pub watching_on : {bit : ℕ} → r ≡ Match bit → (bit ≡ 1 → ⊥) → Watching map ws rows' cur' next' stack' given.reached (t + 1)
+  pub watching_on : {bit : ℕ} → r ≡ Ok bit → (bit ≡ 1 → ⊥) → Watching map ws rows' cur' next' stack' given.reached (t + 1)
   unfolding said
   watching_on {bit} e n =
       let now_ran : Ran map picture (t + 1) rows' = ticked W.ran stepped in

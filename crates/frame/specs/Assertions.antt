@@ -1,10 +1,10 @@
 -- The assertions, as sequence trees of five words a node, and what they lower to.
 -- Example: assertion 1 is `hot_in ##2 kept`, its atoms 0 and 6.
-use Rattle.std.specs.Prelude.{List, [], ◌∷◌, ◌++◌, ℕ, eqb, get_or}
+use Rattle.std.specs.Prelude.{Result, Ok, Err, List, [], ◌∷◌, ◌++◌, ℕ, eqb, get_or}
 use Rattle.words.specs.Choice.{pick}
 use Rattle.meaning.specs.Lower.{words_of, lower}
-use Rattle.meaning.specs.declared.Lowered.{Lowered}
-use Rattle.meaning.specs.declared.Lowered.TheVariants.{Listing, Refused}
+use Rattle.meaning.specs.declared.Listing.{Listing}
+use Rattle.meaning.specs.declared.refusal.Refusal.{Refusal}
 
 -- A node's five words: kind, p, q, min, max.
 abbrev pub node : ℕ → ℕ → ℕ → ℕ → ℕ → List ℕ
@@ -41,9 +41,9 @@ tree_of number =
     (pick (eqb number 2) (words_in good_replaced) (pick (eqb number 3) (words_in wrong_in_row) (words_in wrong_at_start)))
 
 -- The words that a tree lowers to, with so much work and output; none where it is refused.
-unfoldable pub listed_by : Lowered → List ℕ → List ℕ
-listed_by (Listing registers words deepest) tree = words_of tree 0
-listed_by (Refused number place) tree = []
+unfoldable pub listed_by : Result Listing Refusal → List ℕ → List ℕ
+listed_by (Ok listing) tree = words_of tree 0
+listed_by (Err refusal) tree = []
 
 unfoldable pub listed : List ℕ → ℕ → ℕ → List ℕ
 listed tree work out = listed_by (lower tree work out 0) tree

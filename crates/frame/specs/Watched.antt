@@ -2,11 +2,9 @@
 -- each tick until its first alarm. No kept row and no position in the map plays a part.
 -- Example: with the map as made every assertion is quiet; with an entry lost, assertion 1 raises its alarm two ticks after that pixel
 -- came in.
-use Rattle.std.specs.Prelude.{List, ℕ, zero, suc, ◌+◌, ◌-◌, eqb, ltb, leb, replicate}
+use Rattle.std.specs.Prelude.{Result, Ok, Err, List, ℕ, zero, suc, ◌+◌, ◌-◌, eqb, ltb, leb, replicate}
 use Rattle.words.specs.Choice.{pick}
 use Rattle.meaning.specs.Tick.{tick, next_after}
-use Rattle.meaning.specs.declared.Ticked.{Ticked}
-use Rattle.meaning.specs.declared.Ticked.TheVariants.{Match, Refused as RefusedTick}
 use Rattle.correction.specs.Rows.{row_of, column_of}
 use Rattle.correction.specs.Picture.{to_leave}
 use Rattle.correction.specs.declared.Leaving.{Leaving}
@@ -16,6 +14,7 @@ use Rattle.frame.specs.Atoms.{atoms_at}
 use Rattle.frame.specs.Assertions.{tree_of, listed}
 use Rattle.frame.specs.declared.Verdict.{Verdict}
 use Rattle.frame.specs.declared.Verdict.TheVariants.{Quiet, Alarm, Refused}
+use Rattle.meaning.specs.declared.refusal.TickRefusal.{TickRefusal}
 
 -- What the sensor reads; 0 after the frame.
 unfoldable pub picture : ℕ → ℕ → ℕ
@@ -33,9 +32,9 @@ unfoldable pub atoms_of : List ℕ → ℕ → List ℕ
 atoms_of map t = atoms_at t (pixel_of t) (leaving_at map t)
 
 -- What a tick says: an alarm where its match bit is 1, else what the later ones say.
-unfoldable pub said : Ticked → ℕ → Verdict → Verdict
-said (Match bit) t later = pick (eqb bit 1) (Alarm t) later
-said (RefusedTick number place) t later = Refused
+unfoldable pub said : Result ℕ TickRefusal → ℕ → Verdict → Verdict
+said (Ok bit) t later = pick (eqb bit 1) (Alarm t) later
+said (Err refusal) t later = Refused
 
 -- What the listing says of so many ticks from a tick on, and from the registers before it.
 unfoldable pub watched_from : (ℕ → List ℕ) → List ℕ → ℕ → ℕ → List ℕ → Verdict

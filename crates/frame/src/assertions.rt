@@ -6,43 +6,39 @@ ghost use Rattle.words.specs.Written.{Wrote};
 ghost use Rattle.frame.specs.Assertions.{node, words_in, tree_of, listed};
 
 use crate::atoms::{BAD_IN, GOOD_IN, HOT_IN, IN_ROW, KEPT, REPLACED, ROW_START, WRONG};
+use meaning::kind;
 
 // 1: hot_in ##2 kept. A hot pixel leaves as it came.
-const HOT_KEPT: [[u32; 5]; 3] = [[1, HOT_IN, 0, 0, 0], [1, KEPT, 0, 0, 0], [2, 0, 1, 2, 2]];
+const HOT_KEPT: [[u32; 5]; 3] = [
+    [kind::ATOM, HOT_IN, 0, 0, 0],
+    [kind::ATOM, KEPT, 0, 0, 0],
+    [kind::DELAY, 0, 1, 2, 2],
+];
 
 // 2: good_in ##2 replaced. A pixel is replaced that is not defective.
 const GOOD_REPLACED: [[u32; 5]; 3] = [
-    [1, GOOD_IN, 0, 0, 0],
-    [1, REPLACED, 0, 0, 0],
-    [2, 0, 1, 2, 2],
+    [kind::ATOM, GOOD_IN, 0, 0, 0],
+    [kind::ATOM, REPLACED, 0, 0, 0],
+    [kind::DELAY, 0, 1, 2, 2],
 ];
 
 // 3: in_row throughout (bad_in ##2 wrong). A defective pixel whose row goes on while it stays leaves with another value than
 // its row and the one above give.
 const WRONG_IN_ROW: [[u32; 5]; 4] = [
-    [1, BAD_IN, 0, 0, 0],
-    [1, WRONG, 0, 0, 0],
-    [2, 0, 1, 2, 2],
-    [6, IN_ROW, 2, 0, 0],
+    [kind::ATOM, BAD_IN, 0, 0, 0],
+    [kind::ATOM, WRONG, 0, 0, 0],
+    [kind::DELAY, 0, 1, 2, 2],
+    [kind::THROUGHOUT, IN_ROW, 2, 0, 0],
 ];
 
 // 4: row_start within (bad_in ##2 wrong). The same of a pixel during whose stay a row begins: columns 0, 750 and 751.
 const WRONG_AT_START: [[u32; 5]; 5] = [
-    [1, ROW_START, 0, 0, 0],
-    [1, BAD_IN, 0, 0, 0],
-    [1, WRONG, 0, 0, 0],
-    [2, 1, 2, 2, 2],
-    [7, 0, 3, 0, 0],
+    [kind::ATOM, ROW_START, 0, 0, 0],
+    [kind::ATOM, BAD_IN, 0, 0, 0],
+    [kind::ATOM, WRONG, 0, 0, 0],
+    [kind::DELAY, 1, 2, 2, 2],
+    [kind::WITHIN, 0, 3, 0, 0],
 ];
-
-// Puts a node's five words from the place on; the next place.
-fn put_node(tree: &mut [u32], place: usize, kind: u32, p: u32, q: u32, min: u32, max: u32) -> usize
-    requires { place + 5 ≤ length tree.old }
-    ensures { Wrote tree.old tree.new place result (node kind p q min max) }
-{
-    let node = [kind, p, q, min, max];
-    words::copied(&node, tree, place)
-}
 
 // Puts the nodes from the front on; how many words they are.
 fn planted(nodes: &[[u32; 5]], tree: &mut [u32]) -> usize
@@ -50,11 +46,8 @@ fn planted(nodes: &[[u32; 5]], tree: &mut [u32]) -> usize
     ensures { Wrote tree.old tree.new 0 result (words_in nodes.now) }
 {
     let mut words = 0;
-    let mut n = 0;
-    while n < nodes.len() {
-        let v = nodes[n];
-        words = put_node(tree, words, v[0], v[1], v[2], v[3], v[4]);
-        n += 1;
+    for &[kind, p, q, min, max] in nodes {
+        words = words::copied(&[kind, p, q, min, max], tree, words);
     }
     words
 }
@@ -64,16 +57,12 @@ fn tree_of(number: u32, tree: &mut [u32]) -> usize
     requires { 25 ≤ length tree.old }
     ensures { Wrote tree.old tree.new 0 result (tree_of number) }
 {
-    if number == 1 {
-        return planted(&HOT_KEPT, tree);
+    match number {
+        1 => planted(&HOT_KEPT, tree),
+        2 => planted(&GOOD_REPLACED, tree),
+        3 => planted(&WRONG_IN_ROW, tree),
+        _ => planted(&WRONG_AT_START, tree),
     }
-    if number == 2 {
-        return planted(&GOOD_REPLACED, tree);
-    }
-    if number == 3 {
-        return planted(&WRONG_IN_ROW, tree);
-    }
-    planted(&WRONG_AT_START, tree)
 }
 
 // The lowering of a tree; how many words its listing has. A tree that is refused has none, which no tick takes.
@@ -81,11 +70,10 @@ fn lowered(tree: &[u32], work: &mut [u32], out: &mut [u32]) -> usize
     ensures wrote { Wrote out.old out.new 0 result (listed tree.now (length work.old) (length out.old)) }
     ensures cleared { work.new ≡ replicate (length work.old) 0 }
 {
-    let answer = lower::lower(tree, work, out);
-    let meaning::Lowered::Listing(_, words, _) = answer else {
-        return 0;
-    };
-    words
+    match lower::lower(tree, work, out) {
+        Ok(listing) => listing.words,
+        Err(_) => 0,
+    }
 }
 
 // The listing of an assertion; how many words it has.

@@ -27,10 +27,11 @@ pub const KEPT: u32 = 6;
 pub const WRONG: u32 = 7;
 
 // A fact as an atom.
+#[tactic(auto, unfolding(crate::specs::Atoms::bit_of, words::specs::Choice::pick))]
 fn bit(fact: bool) -> u8
     ensures { result ≡ bit_of fact }
 {
-    if fact { 1 } else { 0 }
+    u8::from(fact)
 }
 
 // The atoms of the pixel that comes in; none does after the frame.

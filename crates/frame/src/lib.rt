@@ -35,18 +35,6 @@ fn coming_in(tick: u32) -> u8
     sensor::read(correction::row_of(tick), correction::column_of(tick))
 }
 
-// The registers, for the next tick.
-fn copy(from: &[u8], to: &mut [u8])
-    requires { length from.now ≡ length to.old }
-    ensures { to.new ≡ from.now }
-{
-    let mut i = 0;
-    while i < to.len() {
-        to[i] = from[i];
-        i += 1;
-    }
-}
-
 // One tick of a listing; its registers are then in `cur`.
 fn advance(
     listing: &[u32],
@@ -54,12 +42,12 @@ fn advance(
     atoms: &[u8; 8],
     next: &mut [u8],
     stack: &mut [u8],
-) -> meaning::Ticked
+) -> Result<u8, meaning::TickRefusal>
     requires { length cur.old ≡ length next.old }
     ensures { Advanced listing.now cur.old cur.new atoms.now next.old next.new stack.old stack.new result }
 {
     let ticked = tick::tick(listing, cur, atoms, next, stack);
-    copy(next, cur);
+    cur.copy_from_slice(next);
     ticked
 }
 
@@ -73,21 +61,17 @@ fn watch(map: &[u32], listing: &[u32]) -> Verdict
     let mut next = [0u8; 64];
     let mut stack = [0u8; 64];
     let mut reached = 0;
-    let mut tick = 0;
-    while tick < TICKS {
+    for tick in 0..TICKS {
         let pixel = coming_in(tick);
         let given = correction::step(map, &mut rows, tick, reached, pixel);
-        let leaving = given.leaving;
-        let atoms = atoms::at(tick, pixel, leaving);
-        let ticked = advance(listing, &mut cur, &atoms, &mut next, &mut stack);
-        let meaning::Ticked::Match(bit) = ticked else {
+        let atoms = atoms::at(tick, pixel, given.leaving);
+        let Ok(bit) = advance(listing, &mut cur, &atoms, &mut next, &mut stack) else {
             return Verdict::Refused;
         };
         if bit == 1 {
             return Verdict::Alarm(tick);
         }
         reached = given.reached;
-        tick += 1;
     }
     Verdict::Quiet
 }

@@ -6,7 +6,6 @@ use mathlib.Core.List.{List, [], ◌∷◌, ◌++◌, append-nil}
 use Prim.Native.Nat.{ℕ, zero, suc, ◌+◌, ◌-◌, ◌<◌, ◌≤◌, ◌/◌, ◌%◌}
 use native.Mathlib.Omega.{arith}
 use native.Mathlib.Nat.{mod-eq_of_lt}
-use native.Mathlib.Numerals.{add-one}
 use lib.ListN.{length, length-append}
 use borrow.Author.Tests.{eq-eqb, ne_eqb}
 use Rattle.words.specs.Choice.{pick, pick_true, pick_false}
@@ -23,7 +22,7 @@ use Rattle.meaning.specs.Refusals.{has_guard, guarded}
 use Rattle.meaning.proofs.Emitted.{some_words}
 use Rattle.expand.specs.declared.Parts.{Parts}
 use Rattle.expand.specs.declared.Block.{Block}
-use Rattle.expand.specs.ByNumber.{alternatives_of, copies_of, nth, is_copies, copy_number, delay_parts, copies_block, NumberedCopies, OutlinedNumber, OutlinedCopies}
+use Rattle.expand.specs.ByNumber.{alternatives_of, copies_of, nth, is_copies, copy_number, delay_parts, copies_block, OutlinedNumber, OutlinedCopies}
 use Rattle.outline.specs.Outline.{guard_flag, count_in, bare_in, flag_in}
 use Rattle.outline.proofs.ByWords.{well_formed}
 use Rattle.outline.proofs.Readers.{flag_known}
@@ -244,21 +243,21 @@ module _ {t q : List ℕ} {n i : ℕ} {v : Node} (o : List ℕ) (at : ℕ) (N : 
 abbrev copy_guard : List ℕ → ℕ → ℕ → ℕ → Guard
 copy_guard t n i later = (nth (alternatives_of t n) (copy_number (length (alternatives_of t n)) i later)).guard
 
--- The guard of the copies so far, with those of the copies that are left.
+-- The guard of the copies so far, with those of the copies that are left: the next one, and the `later` that follow it.
 pub joined_on : List ℕ → ℕ → ℕ → Guard → ℕ → Guard
-joined_on t n i g zero = g
-joined_on t n i g (suc later) = joined_on t n i (and_opt g (copy_guard t n i later)) later
+joined_on t n i g zero = and_opt g (copy_guard t n i zero)
+joined_on t n i g (suc later) = joined_on t n i (and_opt g (copy_guard t n i (suc later))) later
 
 -- The guard of the last copy is joined to those of the number that is left without it.
 last_joined : (t : List ℕ) (n i : ℕ) (g : Guard) (later : ℕ)
     → let a = length (alternatives_of t n) in joined_on t n i g (suc later) ≡ and_opt (joined_on t n (i / a) g later) (nth (alternatives_of t n) (i % a)).guard
 unfolding joined_on copy_number
 last_joined t n i g zero = refl
-last_joined t n i g (suc later) = last_joined t n i (and_opt g (copy_guard t n i (suc later))) later
+last_joined t n i g (suc later) = last_joined t n i (and_opt g (copy_guard t n i (suc (suc later)))) later
 
 -- The guards of all copies, joined, are the guard of the copies' alternative.
 all_joined : (t : List ℕ) (n k i : ℕ) → 0 < length (alternatives_of t n) → i < length (copies_of (alternatives_of t n) k)
-    → (nth (copies_of (alternatives_of t n) k) i).guard ≡ joined_on t n i unguarded (suc k)
+    → (nth (copies_of (alternatives_of t n) k) i).guard ≡ joined_on t n i unguarded k
 unfolding joined_on copies_of copy_number
 all_joined t n zero i p q = ap (λ (z : ℕ). (nth (alternatives_of t n) z).guard) (sym (mod-eq_of_lt q))
 all_joined t n (suc k) i p q =
@@ -266,72 +265,80 @@ all_joined t n (suc k) i p q =
     let a = length base in
     ap (λ (y : SeqAlt). y.guard) (nth_copies base k i p q)
     ∙ ap (λ (g : Guard). and_opt g (nth base (i % a)).guard) (all_joined t n k (i / a) p (copies_index base k i p q))
-    ∙ sym (last_joined t n i unguarded (suc k))
+    ∙ sym (last_joined t n i unguarded k)
 
 -- What is joined to a guard makes it no shorter.
 no_shorter : (t : List ℕ) (n i : ℕ) (g : Guard) (later : ℕ) → length (guard_expression g) ≤ length (guard_expression (joined_on t n i g later))
 unfolding joined_on
-no_shorter t n i g zero = omega arith
+no_shorter t n i g zero = first_shorter g (copy_guard t n i zero)
 no_shorter t n i g (suc later) =
-    omega (arith, first_shorter g (copy_guard t n i later), no_shorter t n i (and_opt g (copy_guard t n i later)) later)
+    omega (arith, first_shorter g (copy_guard t n i (suc later)), no_shorter t n i (and_opt g (copy_guard t n i (suc later))) later)
+
+next_is_short : (t : List ℕ) (n i : ℕ) (g : Guard) (later : ℕ)
+    → length (guard_expression (and_opt g (copy_guard t n i later))) ≤ length (guard_expression (joined_on t n i g later))
+unfolding joined_on
+next_is_short t n i g zero = omega arith
+next_is_short t n i g (suc later) = no_shorter t n i (and_opt g (copy_guard t n i (suc later))) later
 
 -- The loop of `repeated_guard`: the guard so far stands there, and with the copies that are left it is the whole.
-pub record Joining (t : List ℕ) (n k i : ℕ) (o : List ℕ) (at : ℕ) (o' : List ℕ) (middle left : ℕ) : Type 0 where
-  pub few : left ≤ k + 1
-  pub long : length o' ≡ length o
+pub record Joining (t : List ℕ) (n k i : ℕ) (o : List ℕ) (at : ℕ) (o' : List ℕ) (middle later : ℕ) : Type 0 where
   pub so_far : Guard
   pub stands : Wrote o o' at middle (guard_expression so_far)
-  pub rest : (nth (copies_of (alternatives_of t n) k) i).guard ≡ joined_on t n i so_far left
+  pub rest : (nth (copies_of (alternatives_of t n) k) i).guard ≡ joined_on t n i so_far later
 
-pub joining_begins : {t : List ℕ} {n k i : ℕ} (o : List ℕ) (at : ℕ) → NumberedCopies t n k i → Joining t n k i o at o at (k + 1)
-joining_begins {t} {n} {k} {i} o at C = record {
-  few = omega arith;
-  long = refl;
+pub joining_begins : {t q : List ℕ} {n k i : ℕ} (o : List ℕ) (at : ℕ) → OutlinedCopies t q n k i → Joining t n k i o at o at k
+joining_begins {t} {n = n} {k} {i} o at C = record {
   so_far = unguarded;
   stands = nothing_written o at;
-  rest = all_joined t n k i (some_alternatives C.node) C.index ∙ ap (joined_on t n i unguarded) (sym (add-one k));
+  rest = all_joined t n k i (some_alternatives C.numbered.node) C.numbered.index;
 }
 
-module _ {t q : List ℕ} {n k i : ℕ} {o : List ℕ} {at : ℕ} {o' : List ℕ} {middle left d : ℕ}
-    (C : OutlinedCopies t q n k i) (J : Joining t n k i o at o' middle left) (m : 0 < left)
-    (e : d ≡ copy_number (count_in q n) i (left - 1)) where
+module _ {t q : List ℕ} {n k i : ℕ} {o : List ℕ} {at : ℕ} {o₁ : List ℕ} {middle later d : ℕ}
+    (C : OutlinedCopies t q n k i) (J : Joining t n k i o at o₁ middle later)
+    (e : d ≡ copy_number (count_in q n) i later) (room : at + length (copies_guard t n k i) ≤ length o) where
   abbrev next_copy : Guard
   next_copy = (nth (alternatives_of t n) d).guard
 
-  -- One copy more is joined.
-  one_joined : (nth (copies_of (alternatives_of t n) k) i).guard ≡ joined_on t n i (and_opt J.so_far next_copy) (left - 1)
-  unfolding joined_on
-  one_joined =
-      let s : left ≡ suc (left - 1) = omega arith in
-      J.rest ∙ ap (joined_on t n i J.so_far) s ∙ rw (copy_counted C (left - 1) e) refl
+  is_next : next_copy ≡ copy_guard t n i later
+  is_next = ap (λ (z : ℕ). (nth (alternatives_of t n) z).guard) (copy_counted C later e)
 
-  module _ (room : at + length (copies_guard t n k i) ≤ length o) where
-    all_room : at + length (guard_expression (and_opt J.so_far next_copy)) ≤ length o
+  all_room : at + length (guard_expression (and_opt J.so_far next_copy)) ≤ length o
+  unfolding guard_text
+  all_room =
+      rw is_next (omega (arith, room, ap (λ (g : Guard). length (guard_expression g)) J.rest, next_is_short t n i J.so_far later))
+
+  pub copy_room : middle + length (node_guard t n d) ≤ length o₁
+  unfolding guard_text
+  copy_room = second_guard_room (and_opt J.so_far next_copy) J.so_far next_copy refl o at all_room J.stands
+
+  module _ {o₂ : List ℕ} {end : ℕ} (x : Wrote o₁ o₂ middle end (node_guard t n d)) where
+    pub copy_join_room : end + length (joining at middle end) ≤ length o₂
     unfolding guard_text
-    all_room =
-        omega (arith, room, ap (λ (g : Guard). length (guard_expression g)) one_joined, no_shorter t n i (and_opt J.so_far next_copy) (left - 1))
+    copy_join_room = join_room (and_opt J.so_far next_copy) J.so_far next_copy refl o at all_room J.stands x
 
-    pub copy_room : middle + length (node_guard t n d) ≤ length o'
-    unfolding guard_text
-    copy_room = second_guard_room (and_opt J.so_far next_copy) J.so_far next_copy refl o at all_room J.stands
-
-    module _ {o'' : List ℕ} {end : ℕ} (x : Wrote o' o'' middle end (node_guard t n d)) where
-      pub copy_join_room : end + length (joining at middle end) ≤ length o''
+    module _ {o₃ : List ℕ} {next : ℕ} (y : Wrote o₂ o₃ end next (joining at middle end)) where
+      one_joined : Wrote o o₃ at next (guard_expression (and_opt J.so_far next_copy))
       unfolding guard_text
-      copy_join_room = join_room (and_opt J.so_far next_copy) J.so_far next_copy refl o at all_room J.stands x
+      one_joined = guards_joined (and_opt J.so_far next_copy) J.so_far next_copy refl o at all_room J.stands x y
 
-      pub joining_on : {o''' : List ℕ} {next : ℕ} → Wrote o'' o''' end next (joining at middle end) → Joining t n k i o at o''' next (left - 1)
-      unfolding guard_text
-      joining_on y =
-          let z = guards_joined (and_opt J.so_far next_copy) J.so_far next_copy refl o at all_room J.stands x y in
-          record { few = omega (arith, J.few); long = still_long z; so_far = and_opt J.so_far next_copy; stands = z; rest = one_joined }
+      pub joining_on : 0 < later → Joining t n k i o at o₃ next (later - 1)
+      unfolding joined_on
+      joining_on m =
+          let s : later ≡ suc (later - 1) = omega arith in
+          record {
+            so_far = and_opt J.so_far next_copy;
+            stands = one_joined;
+            rest =
+                J.rest ∙ ap (joined_on t n i J.so_far) s
+                ∙ ap (λ (g : Guard). joined_on t n i (and_opt J.so_far g) (later - 1)) (ap (copy_guard t n i) (sym s) ∙ sym is_next);
+          }
 
-pub joining_ends : {t : List ℕ} {n k i : ℕ} {o : List ℕ} {at : ℕ} {o' : List ℕ} {middle left : ℕ} → Joining t n k i o at o' middle left → left ≤ 0
-    → Wrote o o' at middle (copies_guard t n k i)
-unfolding guard_text joined_on
-joining_ends {left = left} J m =
-    let z : left ≡ 0 = omega arith in
-    same_words (ap guard_expression (sym (rw z at J.rest))) J.stands
+      pub joining_ends : later ≤ 0 → Wrote o o₃ at next (copies_guard t n k i)
+      unfolding guard_text joined_on
+      joining_ends m =
+          let s : later ≡ 0 = omega arith in
+          let whole = J.rest ∙ ap (joined_on t n i J.so_far) s ∙ ap (and_opt J.so_far) (ap (copy_guard t n i) (sym s) ∙ sym is_next) in
+          same_words (sym (ap guard_expression whole)) one_joined
 
 -- ---- `guard_words`
 

@@ -1,41 +1,19 @@
 -- Where the right operand of a delay may begin is added as the loops go: a stretch of a row byte by byte, and a stretch after each run of
 -- the left. It assumes nothing.
-use mathlib.Core.Path.{◌≡◌, refl}
+use mathlib.Core.Path.{◌≡◌}
 use mathlib.Core.Logic.{inl, inr, ⊎_elim}
 use mathlib.Core.List.{List}
 use Prim.Native.Nat.{ℕ, suc, ◌+◌, ◌-◌, ◌*◌, ◌≤◌, ◌<◌, min as lesser}
 use native.Mathlib.Omega.{arith}
 use native.Mathlib.Decide.{ℕ_discrete}
-use lib.ListN.{length, get_or, set}
+use lib.ListN.{length, get_or}
 use Rattle.runs.specs.Ends.{Gains, Kept}
-use Rattle.runs.proofs.Laws.{gains_none, gains_as, gains_then, Gaining, gaining_begins, gaining_on, gaining_ends}
+use Rattle.runs.proofs.Laws.{gains_none, gains_as, gains_then}
 use Rattle.joined_runs.specs.Joined.{Ahead}
 
 -- The ends from `low` on, below `high`.
 abbrev pub Stretch : ℕ → ℕ → ℕ → Type 0
 Stretch low high j = (low ≤ j) × (j < high)
-
--- The ends from `low` on that are below j were added.
-pub record Filling (low high : ℕ) (before after : List ℕ) (j : ℕ) : Type 0 where
-  pub since : low ≤ j
-  pub gained : Gaining before after (Stretch low high) j
-
--- At first no end from `low` on was added.
-pub filling_begins : (low high : ℕ) (row : List ℕ) → Filling low high row row low
-filling_begins low high row = record { since = omega arith; gained = gaining_begins row (Stretch low high) low (λ m (l, k). l) }
-
--- Byte j becomes 1.
-pub filling_on : {low high : ℕ} {before after : List ℕ} {j : ℕ} → Filling low high before after j → high ≤ length before → j < high
-    → Filling low high before (set after j 1) (j + 1)
-filling_on f h l = record {
-  since = omega (arith, f.since);
-  gained = gaining_on f.gained (omega (arith, f.gained.long)) (inl ((f.since, l), refl));
-}
-
--- At the end all ends from `low` on, below `high`, were added.
-pub filling_ends : {low high : ℕ} {before after : List ℕ} {j : ℕ} → Filling low high before after j → high ≤ j
-    → Gains before after (Stretch low high)
-filling_ends f l = gaining_ends (λ m k q. omega arith) f.gained
 
 -- Where the right operand may begin after the runs of the left that end before n was added.
 pub record Leading (tables : List ℕ) (left min max i : ℕ) (before after : List ℕ) (n : ℕ) : Type 0 where
@@ -52,8 +30,8 @@ leading_begins tables left min max i row = record {
 
 module _ {tables : List ℕ} {left min max i : ℕ} {before after : List ℕ} {n : ℕ} (a : Leading tables left min max i before after n) where
   -- After a run of the left that ends at n a stretch is added.
-  pub leading_on : {after' : List ℕ} {free high : ℕ} → n < length after → get_or tables (left + i * length before + n) 0 ≡ 1
-      → free ≡ min - 1 → high ≡ lesser (n + max) (length after) → Gains after after' (Stretch (n + free) high)
+  pub leading_on : {after' : List ℕ} {free high : ℕ} → n < length before → get_or tables (left + i * length before + n) 0 ≡ 1
+      → free ≡ min - 1 → high ≡ lesser (length after) (n + max) → Gains after after' (Stretch (n + free) high)
       → Leading tables left min max i before after' (n + 1)
   leading_on l e b h g = record {
     since = omega (arith, a.since);
@@ -83,7 +61,7 @@ module _ {tables : List ℕ} {left min max i : ℕ} {before after : List ℕ} {n
   }
 
   -- At the end of the row all was added.
-  pub leading_ends : length after ≤ n → Gains before after (Ahead tables left (length before) min max i)
+  pub leading_ends : length before ≤ n → Gains before after (Ahead tables left (length before) min max i)
   leading_ends l =
       gains_as
       (λ s k. (

@@ -1,12 +1,14 @@
 -- The lowest end of the runs of a table that begin at i or later is found row by row, and says which runs of another table one of them
 -- lies in. It assumes nothing.
-use mathlib.Core.Path.{◌≡◌, subst}
+use mathlib.Core.Path.{◌≡◌, subst, sym}
+use Rattle.std.specs.Prelude.{Option, Some, None, MatchOption}
+use Rattle.std.specs.Option.{unwrap_or}
 use mathlib.Core.Logic.{◌⊎◌, inl, inr, ⊎_elim, ◌↔◌}
 use mathlib.Core.List.{List}
 use Prim.Native.Nat.{ℕ, ◌+◌, ◌*◌, ◌≤◌, ◌<◌}
 use native.Mathlib.Omega.{arith}
 use native.Mathlib.Decide.{ℕ_discrete, dec_le}
-use lib.ListN.{length, get_or}
+use lib.ListN.{length}
 use Rattle.runs.specs.Ends.{Gains, Kept}
 use Rattle.runs.proofs.Laws.{row_inside, gains_as}
 use Rattle.runs.proofs.Reaching.{Added}
@@ -31,35 +33,21 @@ lowest_then {P} {Q} {high} {end} {r} w v = record {
   none_below = λ j l. ⊎_elim (w.none_below j (omega (arith, v.inside))) (v.none_below j l);
 }
 
--- No end of the row below j was met.
-pub record Seeking (tables : List ℕ) (place first j : ℕ) : Type 0 where
-  pub since : first ≤ j
-  pub none : (m : ℕ) → first ≤ m → m < j → get_or tables (place + m) 0 ≡ 1 → ⊥
-
--- At first no byte was looked at.
-pub seeking_begins : (tables : List ℕ) (place first : ℕ) → Seeking tables place first first
-seeking_begins tables place first = record { since = omega arith; none = λ m p q e. omega arith }
-
--- Byte j is no end.
-pub seeking_on : {tables : List ℕ} {place first j : ℕ} → Seeking tables place first j → (get_or tables (place + j) 0 ≡ 1 → ⊥)
-    → Seeking tables place first (j + 1)
-seeking_on {j = j} s n = record {
-  since = omega (arith, s.since);
-  none = λ m p q e. elim (ℕ_discrete m j) [ yes z ↦ n (rw z at e) | no z ↦ s.none m p (omega arith) e ];
-}
-
--- Byte j is the first end.
-pub seeking_found : {tables : List ℕ} {place first high j : ℕ} → Seeking tables place first j → j < high → get_or tables (place + j) 0 ≡ 1
-    → Lowest (Added tables place first) high j
-seeking_found s l e = record { inside = omega arith; holds = λ _. (s.since, e); none_below = λ m q (p, f). s.none m p q f }
-
--- Where no byte below `high` is an end, the lowest end is `high`.
-pub seeking_ends : {tables : List ℕ} {place first high j : ℕ} → Seeking tables place first j → high ≤ j
-    → Lowest (Added tables place first) high high
-seeking_ends s l = record {
+-- The first number of a range that P holds of, or else `high`, is the lowest.
+pub lowest_found : {P : ℕ → Type 0} {first r : ℕ} (high : ℕ) (found : Option ℕ)
+    → MatchOption found
+    ((k : ℕ) → first ≤ k → k < high → P k → ⊥)
+    (λ i. (first ≤ i) × (i < high) × P i × ((k : ℕ) → first ≤ k → k < i → P k → ⊥))
+    → r ≡ unwrap_or found high → Lowest (λ j. (first ≤ j) × P j) high r
+lowest_found high None none e = record {
   inside = omega arith;
-  holds = λ k. absurd (omega arith);
-  none_below = λ m q (p, f). s.none m p (omega arith) f;
+  holds = λ l. absurd (omega arith);
+  none_below = λ j l (f, p). none j f (omega arith) p;
+}
+lowest_found {P} high (Some i) (first, below, holds, none) e = record {
+  inside = omega arith;
+  holds = λ l. (omega arith, subst P (sym e) holds);
+  none_below = λ j l (f, p). none j f (omega arith) p;
 }
 
 -- The lowest end of the runs that begin at i or later and before n.

@@ -3,39 +3,17 @@
 // Example: from start 0, with a at tick 0 and b at tick 2, `a ##2 b` reaches the end 3: the right operand may begin at tick 2.
 #![tactic(auto)]
 
-ghost use Rattle.std.specs.Prelude.{◌≡◌, ◌+◌, ◌-◌, ◌*◌, ◌≤◌, ◌<◌, min, length, get_or};
+ghost use Rattle.std.specs.Prelude.{◌≡◌, ◌+◌, ◌*◌, ◌≤◌, ◌<◌, length, get_or};
 ghost use Rattle.runs.specs.Ends.{Gains, Stands};
 ghost use Rattle.joined_runs.specs.Joined.{Ahead, Later, Overlapped, Delayed, Within, Lowest, EndsFrom};
-
-// The lower of two numbers.
-fn lower(x: usize, y: usize) -> usize
-    ensures { result ≡ min x y }
-{
-    if x < y {
-        return x;
-    }
-    y
-}
-
-// The number before, and 0 before 0.
-fn before(n: usize) -> usize
-    ensures { result ≡ n - 1 }
-{
-    if n == 0 {
-        return 0;
-    }
-    n - 1
-}
 
 // Adds the ends from `low` on, below `high`.
 fn fill(row: &mut [u8], low: usize, high: usize)
     requires { high ≤ length row.old }
     ensures { Gains row.old row.new (λ j. (low ≤ j) × (j < high)) }
 {
-    let mut j = low;
-    while j < high {
-        row[j] = 1;
-        j += 1;
+    if low < high {
+        row[low..high].fill(1);
     }
 }
 
@@ -46,16 +24,12 @@ fn add_ahead(tables: &[u8], left: usize, min: u32, max: u32, i: usize, row: &mut
     ensures { Gains row.old row.new (Ahead tables.now left (length row.old) min max i) }
 {
     let place = left + i * row.len();
-    let mut k = i;
-    while k < row.len() {
+    for k in i..row.len() {
         if tables[place + k] == 1 {
-            fill(
-                row,
-                k + before(min as usize),
-                lower(k + max as usize, row.len()),
-            );
+            let low = k + (min as usize).saturating_sub(1);
+            let high = row.len().min(k + max as usize);
+            fill(row, low, high);
         }
-        k += 1;
     }
 }
 
@@ -105,14 +79,9 @@ fn lowest_end(tables: &[u8], place: usize, first: usize, high: usize) -> usize
     requires { place + high ≤ length tables.now }
     ensures { Lowest (λ j. (first ≤ j) × (get_or tables.now (place + j) 0 ≡ 1)) high result }
 {
-    let mut j = first;
-    while j < high {
-        if tables[place + j] == 1 {
-            return j;
-        }
-        j += 1;
-    }
-    high
+    (first..high)
+        .find(|j| tables[place + *j] == 1)
+        .unwrap_or(high)
 }
 
 // The lowest end of a run that begins at i or later; the side of the table where there is none.
@@ -121,10 +90,8 @@ fn earliest(tables: &[u8], table: usize, side: usize, i: usize) -> usize
     ensures { Lowest (EndsFrom tables.now table side i) side result }
 {
     let mut end = side;
-    let mut k = i;
-    while k < side {
+    for k in i..side {
         end = lowest_end(tables, table + k * side, k, end);
-        k += 1;
     }
     end
 }

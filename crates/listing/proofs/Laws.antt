@@ -1,24 +1,28 @@
 -- The check, the count of registers and the depth count as the code meets them, and what a word that fits may be taken to be.
 -- They assume nothing.
 use mathlib.Core.Path.{◌≡◌, refl, sym, ◌∙◌}
-use mathlib.Core.Bool.{Bool, true, false}
+use Rattle.std.proofs.Common.{Result}
+use mathlib.Core.Bool.{Bool, true, false, cond}
 use mathlib.Core.List.{List, [], ◌∷◌, ◌++◌}
 use Prim.Native.Nat.{ℕ, zero, suc, ◌+◌, ◌-◌, ◌<◌, ◌≤◌, max}
-use native.Mathlib.Nat.{add_assoc, add-zero, zero-add, max-zero, zero-max}
+use native.Mathlib.Nat.{zero-add, max-zero, zero-max}
 use native.Mathlib.Omega.{arith}
 use native.Mathlib.Decide.{dec_le}
 use lib.Dec.{T, eqb, leb, ltb, leb→le}
-use lib.ListN.{length, get_or, drop, drop_of_length-le, get_or-replicate, length-replicate, get_or-append, replicate}
+use lib.ListN.{length, get_or, take, drop, drop_of_length-le, get_or-replicate, length-replicate, get_or-append, replicate}
 use lib.Seq.{get_or-drop}
 use borrow.Author.Tests.{eq-eqb, ne_eqb, eqb-true, eqb-false, ltb-true, ltb-false, le-leb}
+use Rattle.std.specs.List.{count_by}
+use Rattle.std.proofs.lemmas.List.Recursion.{is_count_by}
+use Rattle.std.proofs.lemmas.List.{take_all}
 use Rattle.words.specs.Choice.{pick, pick_true, pick_false, pick_case}
 use Rattle.words.proofs.Laws.{drop_here}
 use Rattle.words.proofs.Taken.{both_hold, second_holds}
 use Rattle.meaning.specs.Listing.{operation, argument, word, row, rows, row_of, height, is_store, registers, deepest_from, deepest}
 use Rattle.meaning.specs.Check.{argument_fits, operands_fit, word_fits, after_match, check_from, check}
 use Rattle.meaning.specs.declared.Row.{Row}
-use Rattle.meaning.specs.declared.Checked.{Checked}
-use Rattle.meaning.specs.declared.Checked.TheVariants.{Described, Faulty}
+use Rattle.meaning.specs.Answers.{described, faulty}
+use Rattle.meaning.specs.declared.refusal.Fault.{Fault}
 use Rattle.listing.specs.Operands.{OperandFound, OperandsFound}
 
 -- A rule of a table, by one test of each entry and of the default.
@@ -145,14 +149,6 @@ module _ {count k h w : ℕ} (f : Fitting count k h w) where
 
 -- The needs of the leaves, where a callee's result stands for a definition.
 
--- A store counts as one store more.
-pub store_more : {b : Bool} (n w : ℕ) → b ≡ is_store w → b ≡ true → n + 1 ≡ n + pick (is_store w) 1 0
-store_more n w e q = rw (pick_true {A = ℕ} 1 0 (sym e ∙ q)) refl
-
--- A word that is no store counts as none more.
-pub store_none : {b : Bool} (n w : ℕ) → b ≡ is_store w → b ≡ false → n ≡ n + pick (is_store w) 1 0
-store_none n w e q = rw (pick_false {A = ℕ} 1 0 (sym e ∙ q)) (sym (add-zero n))
-
 -- What the row that `row` answers takes is there.
 pub takes_found : {v : Row} {h : ℕ} (o : ℕ) → v ≡ row_of o → (row_of o).takes ≤ h → v.takes ≤ h
 takes_found o e q = rw e q
@@ -161,30 +157,20 @@ takes_found o e q = rw e q
 pub height_by_row : {v : Row} {r : ℕ} (h w : ℕ) → v ≡ row_of (operation w) → r ≡ h - v.takes + v.leaves → r ≡ height h w
 height_by_row h w e q = q ∙ rw e refl
 
--- The registers counted up to the place p.
-pub record Counting (ws : List ℕ) (stores p : ℕ) : Type 0 where
-  pub inside : p ≤ length ws
-  pub low : stores ≤ p
-  pub rest : registers ws ≡ stores + registers (drop p ws)
+-- The row of a word, and the height after it, by the row of its kind.
+pub ruleset kinds = (a_value_for_each, a_change_for_each, a_join_for_each, an_end_for_each, takes_found, height_by_row)
 
--- Before the first word no store is counted.
-pub counting_begins : (ws : List ℕ) → Counting ws 0 0
-counting_begins ws = record { inside = omega arith; low = omega arith; rest = sym (zero-add (registers ws)) }
+-- The registers of a slice are its words that are stores: at its end all are counted.
+registers_are_counted : (ws : List ℕ) → registers ws ≡ count_by is_store ws
+unfolding registers pick
+registers_are_counted = is_count_by registers is_store refl (λ w ws. by_store (is_store w) (registers ws))
+  where
+    by_store : (b : Bool) (n : ℕ) → pick b 1 0 + n ≡ cond b (1 + n) n
+    by_store true n = refl
+    by_store false n = zero-add n
 
-module _ {ws : List ℕ} {stores p : ℕ} (g : Counting ws stores p) where
-  -- A word more is counted.
-  pub counting_on : {n : ℕ} → p < length ws → n ≡ stores + pick (is_store (get_or ws p 0)) 1 0 → Counting ws n (p + 1)
-  unfolding registers
-  counting_on {n} h e = record {
-    inside = omega arith;
-    low = omega (arith, g.low, store_counts_one (get_or ws p 0));
-    rest = g.rest ∙ rw (drop_here ws p h, e) (sym (add_assoc stores _ _));
-  }
-
-  -- At the end all stores are counted.
-  pub counting_ends : length ws ≤ p → stores ≡ registers ws
-  unfolding registers
-  counting_ends h = sym (g.rest ∙ rw (drop_of_length-le ws h) (add-zero stores))
+pub all_are_counted : {n : ℕ} (ws : List ℕ) (p : ℕ) → n ≡ count_by is_store (take p ws) → length ws ≤ p → n ≡ registers ws
+all_are_counted ws p e m = e ∙ rw (take_all p ws m) (sym (registers_are_counted ws))
 
 -- The largest of three, in either order.
 pub max_assoc : (a b c : ℕ) → max (max a b) c ≡ max a (max b c)
@@ -227,28 +213,31 @@ pub deepening_ends : {ws : List ℕ} {d h p : ℕ} → Deepening ws d h p → le
 unfolding deepest_from
 deepening_ends {ws} {d} g m = sym (g.rest ∙ rw (drop_of_length-le ws m) (max-zero d))
 
+-- What the depth count knows before the first word, at a word and at the end.
+pub ruleset deepens = (deepening_begins, operand_found, deepening_ends)
+
 -- A fault is not described, so that the test before it holds.
-fits_else_faulty : (b : Bool) {x : Checked} (place : ℕ) → pick b x (Faulty place) ≡ Described → (b ≡ true) × (x ≡ Described)
+fits_else_faulty : (b : Bool) {x : Result (Unit {0}) Fault} (place : ℕ) → pick b x (faulty place) ≡ described → (b ≡ true) × (x ≡ described)
 unfolding pick
 fits_else_faulty true place e = (refl, e)
 fits_else_faulty false place e = absurd (let z : ◌≡◌ {A = ℕ} 0 1 = cc in omega arith)
 
 -- Nothing stands behind the match.
-nothing_after : (place : ℕ) (ws : List ℕ) → after_match place ws ≡ Described → ws ≡ []
+nothing_after : (place : ℕ) (ws : List ℕ) → after_match place ws ≡ described → ws ≡ []
 unfolding after_match
 nothing_after place [] e = refl
 nothing_after place (w ∷ ws) e = absurd (let z : ◌≡◌ {A = ℕ} 0 1 = cc in omega arith)
 
 -- What is known where the words from a place on are as described: the word fits; a match is the last; behind another word
 -- the rest is as described.
-module _ (count w : ℕ) (ws : List ℕ) (place k h : ℕ) (d : check_from count (w ∷ ws) place k h ≡ Described) where
+module _ (count w : ℕ) (ws : List ℕ) (place k h : ℕ) (d : check_from count (w ∷ ws) place k h ≡ described) where
   -- The word fits.
   pub described_fits : Fitting count k h w
   unfolding check_from
   described_fits = fitting count k h w (fits_else_faulty _ place d).0
 
   -- Behind a word that is not the match the rest is as described.
-  pub described_goes_on : (operation w ≡ 14 → ⊥) → check_from count ws (place + 1) (k + pick (is_store w) 1 0) (height h w) ≡ Described
+  pub described_goes_on : (operation w ≡ 14 → ⊥) → check_from count ws (place + 1) (k + pick (is_store w) 1 0) (height h w) ≡ described
   unfolding check_from
   described_goes_on o = sym (pick_false _ _ (ne_eqb _ _ o)) ∙ (fits_else_faulty _ place d).1
 
@@ -258,7 +247,7 @@ module _ (count w : ℕ) (ws : List ℕ) (place k h : ℕ) (d : check_from count
   described_ends o = nothing_after (place + 1) ws (sym (pick_true _ _ (eq-eqb _ _ o)) ∙ (fits_else_faulty _ place d).1)
 
 -- Every described listing can have its stack counted.
-operands_found_from : (count : ℕ) (ws : List ℕ) (place k h : ℕ) → check_from count ws place k h ≡ Described → OperandsFound h ws
+operands_found_from : (count : ℕ) (ws : List ℕ) (place k h : ℕ) → check_from count ws place k h ≡ described → OperandsFound h ws
 unfolding OperandsFound
 operands_found_from count [] place k h d = tt
 operands_found_from count (w ∷ ws) place k h d =
@@ -271,6 +260,6 @@ operands_found_from count (w ∷ ws) place k h d =
     )
 
 -- `deepest` may be asked of a described listing.
-pub described_operands_found : (ws : List ℕ) → check ws ≡ Described → OperandsFound 0 ws
+pub described_operands_found : (ws : List ℕ) → check ws ≡ described → OperandsFound 0 ws
 unfolding check
 described_operands_found ws d = operands_found_from (registers ws) ws 0 0 0 d

@@ -1,28 +1,28 @@
 -- One word of the step: for each kind of operation, the tests that decide whether it fits, as the code makes them. They assume nothing.
 use mathlib.Core.Path.{◌≡◌, refl, sym, ◌∙◌}
 use mathlib.Core.Bool.{Bool, true, false}
-use Prim.Native.Nat.{ℕ, ◌+◌, ◌*◌, ◌<◌, ◌≤◌, max}
+use Rattle.std.proofs.Common.{Some, None}
+use Prim.Native.Nat.{ℕ, ◌<◌, ◌≤◌}
 use native.Mathlib.Omega.{arith}
 use native.Mathlib.Decide.{dec_le}
-use lib.Dec.{eqb, ltb}
+use lib.Dec.{eqb, leb, ltb}
 use borrow.Author.Tests.{eq-eqb, ne_eqb, eqb-true, eqb-false, lt-ltb, le-ltb, le-leb, lt-leb}
 use Rattle.words.specs.Choice.{pick, pick_true, pick_false}
 use Rattle.words.proofs.Taken.{no_test}
-use Rattle.meaning.specs.Listing.{operation, argument, word, row_of, height, is_store}
+use Rattle.meaning.specs.Listing.{operation, argument, word, row_of, is_store}
 use Rattle.meaning.specs.Check.{argument_fits, operands_fit, word_fits}
 use Rattle.meaning.specs.declared.Row.{Row}
 use Rattle.meaning.proofs.Operations.{operation_is_store, below_9_is_no_store}
 use Rattle.listing.specs.Operands.{OperandFound}
-use Rattle.listing.specs.Step.{reach, tallied, noted, ended}
+use Rattle.listing.specs.Step.{tallied, noted, ended}
 use Rattle.listing.specs.declared.Tally.{Tally}
-use Rattle.listing.specs.declared.Noted.TheVariants.{Fits, Unfit}
 use Rattle.listing.proofs.Laws.{value_row, end_row}
 
 -- A word's operation, by where the word lies.
 module _ {w : ℕ} where
-  -- A word below the first store is no store.
-  pub no_store_below : w < word 9 0 → false ≡ is_store w
-  no_store_below l = sym (below_9_is_no_store w (omega arith))
+  -- A word below the first store is no store: what the test for one gives is what the definition says.
+  pub no_store_below : w < word 9 0 → leb (word 9 0) w ≡ is_store w
+  no_store_below l = lt-leb (word 9 0) w l ∙ sym (below_9_is_no_store w (omega arith))
 
   -- From the first store on, what lies below the match is a store.
   pub a_store_below : word 9 0 ≤ w → ltb w (word 14 0) ≡ is_store w
@@ -32,27 +32,6 @@ module _ {w : ℕ} where
         | yes m ↦ le-ltb w (word 14 0) m ∙ sym (pick_true _ _ (le-leb 9 (operation w) (omega arith)) ∙ lt-leb (operation w) 13 (omega arith))
         | no m ↦ lt-ltb w (word 14 0) (omega arith) ∙ sym (operation_is_store w (omega arith) (omega arith))
       ]
-
--- What a word reaches, by where it lies.
-module _ {w : ℕ} (o : ℕ) where
-  -- A word of a lower operation reaches nothing.
-  pub below_reach : {first : ℕ} → first ≡ o * 16777216 → w < first → 0 ≡ reach o w
-  below_reach e l = sym (pick_false _ _ (ne_eqb (operation w) o (λ z. omega arith)))
-
-  -- A word of the operation itself reaches behind its argument.
-  pub within_reach : {first : ℕ} → first ≡ o * 16777216 → first ≤ w → w < first + 16777216 → argument w + 1 ≡ reach o w
-  within_reach e h l = sym (pick_true _ _ (eq-eqb (operation w) o (omega arith)))
-
-  -- A word of a higher operation reaches nothing.
-  pub beyond_reach : {first : ℕ} → first ≡ o * 16777216 → first + 16777216 ≤ w → 0 ≡ reach o w
-  beyond_reach e h = sym (pick_false _ _ (ne_eqb (operation w) o (λ z. omega arith)))
-
--- The tally with what the callees answer.
-pub tallied_so : {k h d a n p q : ℕ} (s : Tally) (w : ℕ) → h ≡ height s.height w → k ≡ s.stores + pick (is_store w) 1 0 → d ≡ max s.deepest h
-    → p ≡ reach 1 w → a ≡ max s.atoms p → q ≡ reach 2 w → n ≡ max s.named q
-    → record { stores = k; height = h; deepest = d; atoms = a; named = n } ≡ tallied s w
-unfolding tallied
-tallied_so s w h k d p a q n = rw (d, a, n, p, q, h, k) refl
 
 -- The operands that a word of each kind finds.
 module _ {h w : ℕ} where
@@ -156,21 +135,21 @@ module _ {h : ℕ} (w : ℕ) where
 -- The answer of the step, as the code gives it.
 module _ (count : ℕ) (s : Tally) (w : ℕ) where
   -- A word that fits, and is not the match, is noted.
-  fits : {t : Tally} → t ≡ tallied s w → operation w < 14 → word_fits count s.stores s.height w ≡ true → Fits t ≡ noted count s w
+  fits : {t : Tally} → t ≡ tallied s w → operation w < 14 → word_fits count s.stores s.height w ≡ true → Some t ≡ noted count s w
   unfolding noted
   fits e n f = rw e (sym (pick_true _ _ (pick_false _ _ (ne_eqb (operation w) 14 (λ z. omega arith)) ∙ f)))
 
   -- A word that does not fit is not noted.
-  unfit : word_fits count s.stores s.height w ≡ false → Unfit ≡ noted count s w
+  unfit : word_fits count s.stores s.height w ≡ false → None ≡ noted count s w
   unfolding noted
   unfit f = sym (pick_false _ _ (rw f (no_test (eqb (operation w) 14))))
 
   -- A word below the first atom is not noted.
-  pub unknown_word : w < word 1 0 → Unfit ≡ noted count s w
+  pub unknown_word : w < word 1 0 → None ≡ noted count s w
   unknown_word l = unfit (no_operation _ _ _ w (omega arith))
 
   -- An atom or a register past the bound is not noted.
-  pub number_too_large : word 1 0 ≤ w → w < word 3 0 → 65536 ≤ argument w → Unfit ≡ noted count s w
+  pub number_too_large : word 1 0 ≤ w → w < word 3 0 → 65536 ≤ argument w → None ≡ noted count s w
   number_too_large p q l =
       let large = le-ltb (argument w) 65536 l in
       unfit
@@ -181,39 +160,39 @@ module _ (count : ℕ) (s : Tally) (w : ℕ) where
       ]))
 
   -- An atom below the bound is noted.
-  pub atom_noted : {t : Tally} → t ≡ tallied s w → word 1 0 ≤ w → w < word 2 0 → argument w < 65536 → Fits t ≡ noted count s w
+  pub atom_noted : {t : Tally} → t ≡ tallied s w → word 1 0 ≤ w → w < word 2 0 → argument w < 65536 → Some t ≡ noted count s w
   atom_noted e p q l =
       let f = name_found p (omega arith) in
       fits e (omega arith) (both_fit _ _ _ w f (atom_argument _ _ w (omega arith) ∙ lt-ltb _ _ l) (enough_operands w f (omega arith)))
 
   -- A register past the count is not noted.
-  pub register_too_large : word 2 0 ≤ w → w < word 3 0 → count ≤ argument w → Unfit ≡ noted count s w
+  pub register_too_large : word 2 0 ≤ w → w < word 3 0 → count ≤ argument w → None ≡ noted count s w
   register_too_large p q l = unfit (wrong_argument _ _ _ w (register_argument _ _ w (omega arith) ∙ pick_false _ _ (le-ltb _ _ l)))
 
   -- A register below the bound and the count is noted.
-  pub register_noted : {t : Tally} → t ≡ tallied s w → word 2 0 ≤ w → w < word 3 0 → argument w < 65536 → argument w < count → Fits t ≡ noted count s w
+  pub register_noted : {t : Tally} → t ≡ tallied s w → word 2 0 ≤ w → w < word 3 0 → argument w < 65536 → argument w < count → Some t ≡ noted count s w
   register_noted e p q l m =
       let f = name_found (omega arith) q in
       fits e (omega arith)
       (both_fit _ _ _ w f (register_argument _ _ w (omega arith) ∙ pick_true _ _ (lt-ltb _ _ m) ∙ lt-ltb _ _ l) (enough_operands w f (omega arith)))
 
   -- A word of the operations 3 to 8 with an argument is not noted.
-  pub filled_argument : word 3 0 ≤ w → w < word 9 0 → (argument w ≡ 0 → ⊥) → Unfit ≡ noted count s w
+  pub filled_argument : word 3 0 ≤ w → w < word 9 0 → (argument w ≡ 0 → ⊥) → None ≡ noted count s w
   filled_argument p q n = unfit (wrong_argument _ _ _ w (plain_argument _ _ w (omega arith) (omega arith) ∙ ne_eqb _ _ n))
 
   -- An operation that does not find what it takes is not noted.
-  pub plain_unfit : {v : Row} → v ≡ row_of (operation w) → s.height < v.takes → Unfit ≡ noted count s w
+  pub plain_unfit : {v : Row} → v ≡ row_of (operation w) → s.height < v.takes → None ≡ noted count s w
   plain_unfit e l = unfit (wrong_operands _ _ _ w (too_few_operands w (rw (← e) l)))
 
   -- A word of the operations 3 to 8 that finds what it takes is noted.
   pub plain_noted : {t : Tally} {v : Row} → t ≡ tallied s w → word 3 0 ≤ w → w < word 9 0 → argument w ≡ 0 → v ≡ row_of (operation w) → v.takes ≤ s.height
-      → Fits t ≡ noted count s w
+      → Some t ≡ noted count s w
   plain_noted e p q a r l =
       let f = plain_found p q r l in
       fits e (omega arith) (both_fit _ _ _ w f (plain_argument _ _ w (omega arith) (omega arith) ∙ eq-eqb _ _ a) (enough_operands w f (omega arith)))
 
   -- Neither the match nor what is none of the fourteen is noted.
-  pub past_the_stores : word 14 0 ≤ w → Unfit ≡ noted count s w
+  pub past_the_stores : word 14 0 ≤ w → None ≡ noted count s w
   unfolding noted
   past_the_stores p =
       elim (dec_le 15 (operation w)) [
@@ -222,15 +201,15 @@ module _ (count : ℕ) (s : Tally) (w : ℕ) where
       ]
 
   -- A store at another height than 1 is not noted.
-  pub store_not_alone : word 9 0 ≤ w → (s.height ≡ 1 → ⊥) → Unfit ≡ noted count s w
+  pub store_not_alone : word 9 0 ≤ w → (s.height ≡ 1 → ⊥) → None ≡ noted count s w
   store_not_alone p n = unfit (wrong_operands _ _ _ w (not_alone w (omega arith) n))
 
   -- A store of another register than the next is not noted.
-  pub another_register : word 9 0 ≤ w → w < word 14 0 → (argument w ≡ s.stores → ⊥) → Unfit ≡ noted count s w
+  pub another_register : word 9 0 ≤ w → w < word 14 0 → (argument w ≡ s.stores → ⊥) → None ≡ noted count s w
   another_register p q n = unfit (wrong_argument _ _ _ w (store_argument _ _ w (omega arith) (omega arith) ∙ pick_false _ _ (ne_eqb _ _ n)))
 
   -- A store past the bound is not noted.
-  pub store_too_large : word 9 0 ≤ w → w < word 14 0 → 65536 ≤ argument w → Unfit ≡ noted count s w
+  pub store_too_large : word 9 0 ≤ w → w < word 14 0 → 65536 ≤ argument w → None ≡ noted count s w
   store_too_large p q l =
       unfit
       (wrong_argument _ _ _ w
@@ -238,7 +217,7 @@ module _ (count : ℕ) (s : Tally) (w : ℕ) where
 
   -- A store of the next register, at height 1, is noted.
   pub store_noted : {t : Tally} → t ≡ tallied s w → word 9 0 ≤ w → w < word 14 0 → s.height ≡ 1 → argument w ≡ s.stores → argument w < 65536
-      → Fits t ≡ noted count s w
+      → Some t ≡ noted count s w
   store_noted e p q one a l =
       let f = store_found p q one in
       fits e (omega arith)
@@ -249,7 +228,7 @@ module _ (count : ℕ) (s : Tally) (w : ℕ) where
   -- The match with argument 0 fits where one value is on the stack.
   match_fits : operation w ≡ 14 → argument w ≡ 0 → (b : Bool) → eqb s.height 1 ≡ b → b ≡ word_fits count s.stores s.height w
   match_fits o a true e =
-      let one = eqb-true _ _ e in
+      let one : s.height ≡ 1 = eqb-true _ _ e in
       let f = end_found {w = w} (omega arith) (omega arith) one in
       sym (both_fit _ _ _ w f (match_argument _ _ w o ∙ eq-eqb _ _ a) (one_operand w f (omega arith) ∙ e))
   match_fits o a false e = sym (wrong_operands _ _ _ w (not_alone w (omega arith) (eqb-false _ _ e)))
@@ -264,3 +243,22 @@ module _ (count : ℕ) (s : Tally) (w : ℕ) where
             ∙ sym (wrong_argument _ _ _ w (match_argument _ _ w o ∙ ne_eqb (argument w) 0 (λ z. omega arith)))
         | no m ↦ pick_true _ _ (eq-eqb w (word 14 0) (omega arith)) ∙ match_fits o (omega arith) (eqb s.height 1) refl
       ]
+
+-- What `note` answers at each kind of word, and what `tallied` asks there.
+pub ruleset noted_words = (
+  unknown_word,
+  number_too_large,
+  atom_noted,
+  register_too_large,
+  register_noted,
+  filled_argument,
+  plain_unfit,
+  plain_noted,
+  past_the_stores,
+  store_not_alone,
+  another_register,
+  store_too_large,
+  store_noted,
+  plain_found,
+  store_found,
+)

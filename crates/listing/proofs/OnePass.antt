@@ -5,6 +5,8 @@
 use mathlib.Core.Path.{◌≡◌, refl, sym, ◌∙◌}
 use mathlib.Core.Bool.{Bool, true, false}
 use mathlib.Core.List.{List, [], ◌∷◌}
+use Rattle.std.proofs.Common.{Option, Some, None, Result, Ok}
+use Rattle.std.specs.Option.{ok_or}
 use Prim.Native.Nat.{ℕ, ◌+◌, ◌<◌, ◌≤◌, max}
 use native.Mathlib.Nat.{add_assoc, add-zero, zero-add, max-zero, zero-max, max-le, le-max_left, le-max_right}
 use native.Mathlib.Omega.{arith}
@@ -17,11 +19,10 @@ use Rattle.words.proofs.Laws.{drop_here}
 use Rattle.words.proofs.Taken.{both_hold, second_holds, false_is_not_true}
 use Rattle.meaning.specs.Listing.{operation, argument, word, rows, row_of, is_store, registers, deepest_from, deepest, atoms_named}
 use Rattle.meaning.specs.Check.{argument_fits, word_fits, after_match, check_from, check}
-use Rattle.meaning.specs.declared.Checked.TheVariants.{Described, Faulty}
+use Rattle.meaning.specs.Answers.{described, faulty}
+use Rattle.meaning.specs.declared.refusal.Fault.{Fault}
 use Rattle.listing.specs.Step.{reach, tallied, noted, ended, Undescribed}
 use Rattle.listing.specs.declared.Tally.{Tally}
-use Rattle.listing.specs.declared.Noted.{Noted}
-use Rattle.listing.specs.declared.Noted.TheVariants.{Fits, Unfit}
 use Rattle.listing.proofs.Laws.{height_rises_by_one, store_counts_one, max_assoc, Fitting, fitting, register_below, register_small, described_fits, described_goes_on, described_ends}
 use Rattle.listing.proofs.NotedWord.{ended_fits}
 
@@ -65,18 +66,18 @@ module _ {count k h w : ℕ} (f : Fitting count k h w) where
   named_small = pick_case (λ (n : ℕ). n ≤ 65536) (eqb (operation w) 2) (λ q. omega (arith, register_small f (eqb-true _ _ q))) (λ _. omega arith)
 
 -- A word that was noted fits, and the tally has it.
-fits_noted : {x t : Tally} (b : Bool) → pick b (Fits x) Unfit ≡ Fits t → (b ≡ true) × (t ≡ x)
+fits_noted : {x t : Tally} (b : Bool) → pick b (Some x) None ≡ Some t → (b ≡ true) × (t ≡ x)
 unfolding pick
 fits_noted true e = (refl, (cc))
 fits_noted false e = absurd (let z : ◌≡◌ {A = ℕ} 0 1 = cc in omega arith)
 
 -- The operation of a word that was noted is one of the fourteen.
-pub noted_known : {n : Noted} {t : Tally} (count : ℕ) (s : Tally) (w : ℕ) → n ≡ noted count s w → n ≡ Fits t → 1 ≤ operation w
+pub noted_known : {n : Option Tally} {t : Tally} (count : ℕ) (s : Tally) (w : ℕ) → n ≡ noted count s w → n ≡ Some t → 1 ≤ operation w
 unfolding noted
 noted_known count s w e q = (fitting _ _ _ w (second_holds (eqb (operation w) 14) (fits_noted _ (sym e ∙ q)).0).1).operand.known
 
 -- A word that was not noted does not fit, or is the match.
-unfit_noted : (x : Tally) (b : Bool) → pick b (Fits x) Unfit ≡ Unfit → b ≡ false
+unfit_noted : (x : Tally) (b : Bool) → pick b (Some x) None ≡ None → b ≡ false
 unfolding pick
 unfit_noted x true e = absurd (let z : ◌≡◌ {A = ℕ} 0 1 = cc in omega arith)
 unfit_noted x false e = refl
@@ -87,6 +88,11 @@ unfolding pick
 fails_too true f g e = g refl
 fails_too false f g e = e
 
+-- What was let through was there.
+was_there : {A E : Type 0} (n : Option A) (x : E) {t : A} → ok_or n x ≡ Ok t → n ≡ Some t
+was_there (Some y) x e = cc
+was_there None x e = absurd (let z : ◌≡◌ {A = ℕ} 0 1 = cc in omega arith)
+
 -- What is counted of the words before the place p; where no register that they name is missing, the check comes this far.
 pub record Passing (count : ℕ) (ws : List ℕ) (s : Tally) (p : ℕ) : Type 0 where
   pub inside : p ≤ length ws
@@ -96,7 +102,7 @@ pub record Passing (count : ℕ) (ws : List ℕ) (s : Tally) (p : ℕ) : Type 0 
   pub stores : registers ws ≡ s.stores + registers (drop p ws)
   pub deep : deepest ws ≡ max s.deepest (deepest_from s.height (drop p ws))
   pub atoms : atoms_named ws ≡ max s.atoms (atoms_named (drop p ws))
-  pub named : check ws ≡ Described → s.named ≤ registers ws
+  pub named : check ws ≡ described → s.named ≤ registers ws
   pub enough : s.named ≤ registers ws → check ws ≡ check_from (registers ws) (drop p ws) p s.stores s.height
 
 -- Before the first word nothing is counted.
@@ -121,15 +127,15 @@ module _ {count : ℕ} {ws : List ℕ} {s : Tally} {p : ℕ} (g : Passing count 
   here = rw (drop_here ws p l) refl
 
   -- A described listing is described from here on.
-  only_here : check ws ≡ Described → check_from (registers ws) (word_at ws p ∷ behind ws p) p s.stores s.height ≡ Described
+  only_here : check ws ≡ described → check_from (registers ws) (word_at ws p ∷ behind ws p) p s.stores s.height ≡ described
   only_here d = sym (g.enough (g.named d) ∙ here) ∙ d
 
   -- A word of a described listing fits.
-  fitting_here : check ws ≡ Described → Fitting (registers ws) s.stores s.height (word_at ws p)
+  fitting_here : check ws ≡ described → Fitting (registers ws) s.stores s.height (word_at ws p)
   fitting_here d = described_fits _ _ _ _ _ _ (only_here d)
 
   -- Behind a word that was noted the pass goes on.
-  pub passing_on : {n : Noted} {t : Tally} → n ≡ noted count s (word_at ws p) → n ≡ Fits t → Passing count ws t (p + 1)
+  pub passing_on : {n : Option Tally} {t : Tally} → n ≡ noted count s (word_at ws p) → n ≡ Some t → Passing count ws t (p + 1)
   unfolding noted tallied check_from registers deepest_from atoms_named
   passing_on e q =
       let w = word_at ws p in
@@ -152,15 +158,20 @@ module _ {count : ℕ} {ws : List ℕ} {s : Tally} {p : ℕ} (g : Passing count 
             ∙ pick_false _ _ b.0;
       }
 
+  -- The same, where the check hands a word that was not noted up.
+  pub goes_on : {n : Option Tally} {r : Result Tally Fault} {t : Tally} → n ≡ noted count s (word_at ws p) → r ≡ ok_or n (record { place = p }) → r ≡ Ok t
+      → Passing count ws t (p + 1)
+  goes_on {n} e f q = passing_on e (was_there n _ (sym f ∙ q))
+
   -- A word of a described listing that another follows is not the match.
-  no_match_here : p + 1 < length ws → check ws ≡ Described → operation (word_at ws p) ≡ 14 → ⊥
+  no_match_here : p + 1 < length ws → check ws ≡ described → operation (word_at ws p) ≡ 14 → ⊥
   no_match_here m d o =
       let z : behind ws p ≡ [] = described_ends _ _ _ _ _ _ (only_here d) o in
       let y : ◌≡◌ {A = ℕ} 0 1 = cc (drop_here ws (p + 1) m) in
       omega arith
 
   -- A word that was not noted, and that may not be the last, does not fit.
-  unfit_there : {n : Noted} {b : Bool} → b ≡ ended s (word_at ws p) → b ≡ false → n ≡ noted count s (word_at ws p) → n ≡ Unfit
+  unfit_there : {n : Option Tally} {b : Bool} → b ≡ ended s (word_at ws p) → b ≡ false → n ≡ noted count s (word_at ws p) → n ≡ None
       → word_fits count s.stores s.height (word_at ws p) ≡ false
   unfolding noted
   unfit_there u v e q =
@@ -189,29 +200,31 @@ module _ {count : ℕ} {ws : List ℕ} {s : Tally} {p : ℕ} (g : Passing count 
 
   module _ {b : Bool} (l : p < length ws) (u : b ≡ ended s (word_at ws p)) where
     -- The word does not fit: it is the first faulty one.
-    pub faulty_here : {n : Noted} → b ≡ false → n ≡ noted count s (word_at ws p) → n ≡ Unfit → Faulty p ≡ check ws
+    pub faulty_here : {n : Option Tally} → b ≡ false → n ≡ noted count s (word_at ws p) → n ≡ None → faulty p ≡ check ws
     unfolding check_from
     faulty_here v e q = sym (g.enough none_missing ∙ here g l ∙ pick_false _ _ (rw c at (unfit_there g l u v e q)))
 
     -- A word follows the match: it is the first faulty one.
-    pub faulty_past : b ≡ true → p + 1 < length ws → Faulty (p + 1) ≡ check ws
+    pub faulty_past : b ≡ true → p + 1 < length ws → faulty (p + 1) ≡ check ws
     unfolding after_match
     faulty_past v m = sym (ended_here g l u v none_missing ∙ rw (drop_here ws (p + 1) m) refl)
 
     -- The match is the last word.
-    pub described_there : b ≡ true → length ws ≤ p + 1 → Described ≡ check ws
+    pub described_there : b ≡ true → length ws ≤ p + 1 → described ≡ check ws
     unfolding after_match
     described_there v m = sym (ended_here g l u v none_missing ∙ rw (drop_of_length-le ws m) refl)
 
   -- The words end before a match: the word count is the place.
-  pub ends_early : length ws ≤ p → Faulty p ≡ check ws
+  pub ends_early : length ws ≤ p → faulty (length ws) ≡ check ws
   unfolding check_from
-  ends_early m = sym (g.enough none_missing ∙ rw (drop_of_length-le ws m) refl)
+  ends_early m =
+      let all : length ws ≡ p = omega (arith, g.inside) in
+      sym (g.enough none_missing ∙ rw (drop_of_length-le ws m, all) refl)
 
 -- The pass with the bound of register numbers lets each described listing through.
 module _ {ws : List ℕ} {s : Tally} {p : ℕ} (g : Passing 65536 ws s p) where
   -- A word before the last that was not noted is in no described listing.
-  pub never_unfit : {n : Noted} → p + 1 < length ws → n ≡ noted 65536 s (word_at ws p) → n ≡ Unfit → Undescribed ws
+  pub never_unfit : {n : Option Tally} → p + 1 < length ws → n ≡ noted 65536 s (word_at ws p) → n ≡ None → Undescribed ws
   unfolding noted
   never_unfit m e q = record {
     never = λ d.
@@ -232,7 +245,7 @@ module _ {ws : List ℕ} {s : Tally} {p : ℕ} (g : Passing 65536 ws s p) where
   -- The last word.
   module _ {b : Bool} (l : p < length ws) (m : length ws ≤ p + 1) (u : b ≡ ended s (word_at ws p)) where
     -- A described listing ends with the match.
-    match_here : check ws ≡ Described → operation (word_at ws p) ≡ 14
+    match_here : check ws ≡ described → operation (word_at ws p) ≡ 14
     unfolding check_from
     match_here d = elim (dec_le 14 (operation (word_at ws p))) [
       | yes o ↦ omega (arith, (fitting_here g l d).operand.last)
@@ -270,6 +283,9 @@ module _ {ws : List ℕ} {s : Tally} {p : ℕ} (g : Passing 65536 ws s p) where
       never_missing n = record { never = λ d. omega (arith, g.named d, all_stores) }
 
       -- Where each register named has its store, the listing is described.
-      pub described_last : s.named ≤ s.stores → check ws ≡ Described
+      pub described_last : s.named ≤ s.stores → check ws ≡ described
       unfolding after_match
       described_last n = ended_here g l u v (omega (arith, all_stores)) ∙ rw (drop_of_length-le ws m) refl
+
+-- What the check answers, by where the pass with the slice's own count ends.
+pub ruleset passes = (faulty_here, faulty_past, described_there, ends_early)

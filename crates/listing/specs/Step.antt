@@ -3,14 +3,12 @@
 -- stores of the whole slice. A reader that does not know them yet takes the bound of register numbers, 65,536, and compares the highest register
 -- that was named with the stores at the end (proofs/OnePass.antt).
 -- Example: behind a0 any seq0 r0 the tally has 1 store, height 1, deepest 1, 1 atom and 1 register named.
-use Rattle.std.specs.Prelude.{◌≡◌, Bool, false, List, ℕ, ◌+◌, ◌^◌, ◌<◌, max, eqb}
+use Rattle.std.specs.Prelude.{◌≡◌, Bool, false, List, Option, Some, None, ℕ, ◌+◌, ◌^◌, ◌<◌, max, eqb}
 use Rattle.words.specs.Choice.{pick}
 use Rattle.meaning.specs.Listing.{word, operation, argument, height, is_store}
 use Rattle.meaning.specs.Check.{word_fits, check}
-use Rattle.meaning.specs.declared.Checked.TheVariants.{Described}
+use Rattle.meaning.specs.Answers.{described}
 use Rattle.listing.specs.declared.Tally.{Tally}
-use Rattle.listing.specs.declared.Noted.{Noted}
-use Rattle.listing.specs.declared.Noted.TheVariants.{Fits, Unfit}
 
 -- The counts of fewer words than a slice can have.
 pub record Small (s : Tally) : Type 0 where
@@ -33,8 +31,8 @@ tallied s w =
     }
 
 -- "a word behind the match is itself the faulty one", so a word before the last is not the match; and it fits.
-unfoldable pub noted : ℕ → Tally → ℕ → Noted
-noted count s w = pick (pick (eqb (operation w) 14) false (word_fits count s.stores s.height w)) (Fits (tallied s w)) Unfit
+unfoldable pub noted : ℕ → Tally → ℕ → Option Tally
+noted count s w = pick (pick (eqb (operation w) 14) false (word_fits count s.stores s.height w)) (Some (tallied s w)) None
 
 -- "the match ends the listing", with argument 0, and it leaves nothing behind.
 unfoldable pub ended : Tally → ℕ → Bool
@@ -42,4 +40,4 @@ ended s w = pick (eqb w (word 14 0)) (eqb s.height 1) false
 
 -- The listing is not as described.
 pub record Undescribed (ws : List ℕ) : Type 0 where
-  pub never : check ws ≡ Described → ⊥
+  pub never : check ws ≡ described → ⊥

@@ -3,8 +3,8 @@
 // The step takes what is counted of the words so far and the next word, and gives what is counted with that word, or that it does not fit. It
 // reads no slice, so that the words may come from anywhere: the check and the tick feed it.
 //
-// Example: a0 any seq0 r0 a1 any and match is `Described`, and its deepest stack is 2. Without its last word it is
-// `Faulty` at place 7, the word count.
+// Example: a0 any seq0 r0 a1 any and match passes the check, and its deepest stack is 2. Without its last word it is
+// faulty at place 7, the word count.
 #![tactic(auto)]
 
 ghost use Rattle.std.specs.Prelude.{◌≡◌, ◌+◌, ◌-◌, ◌^◌, ◌≤◌, ◌<◌, max};
@@ -14,7 +14,7 @@ ghost use Rattle.meaning.specs.Check.{check};
 ghost use Rattle.listing.specs.Operands.{OperandFound, OperandsFound};
 ghost use Rattle.listing.specs.Step.{Small, reach as reach_of, tallied as tallied_of, noted, ended as ended_of};
 
-use meaning::{operation, word};
+use meaning::{Fault, operation, word};
 
 // A value on the stack.
 const LEAF: meaning::Row = meaning::Row {
@@ -65,15 +65,9 @@ pub const NOTHING: Tally = Tally {
     named: 0,
 };
 
-// A word behind others: the tally with it, or a word that no described listing has there.
-#[derive(Clone, Copy)]
-pub enum Noted {
-    Fits(Tally),
-    Unfit,
-}
-
 // What the operation takes from the stack and leaves on it. The compiled code lays the table out anew at each look-up, so a caller that knows the
 // operation, or its kind, asks for a constant's row, which costs nothing at run time.
+#[tactic(auto, unfolding(meaning::specs::Listing::row_of, meaning::specs::Listing::rows))]
 pub fn row(o: u32) -> meaning::Row
     requires { (1 ≤ o) × (o ≤ 14) }
     ensures { result ≡ row_of o }
@@ -82,6 +76,7 @@ pub fn row(o: u32) -> meaning::Row
 }
 
 // The row of the word's operation: operations of one kind have one row, so that a constant's is asked for.
+#[tactic(auto, using(crate::proofs::Laws::kinds))]
 fn row_of_word(w: u32) -> meaning::Row
     requires { (1 ≤ operation w) × (operation w ≤ 14) }
     ensures { result ≡ row_of (operation w) }
@@ -99,24 +94,11 @@ fn row_of_word(w: u32) -> meaning::Row
 }
 
 // Whether the word is a register's store.
+#[tactic(auto, using(crate::proofs::NotedWord::no_store_below, crate::proofs::NotedWord::a_store_below))]
 pub fn is_store(w: u32) -> bool
     ensures { result ≡ is_store w }
 {
-    if w < word::SEQ {
-        return false;
-    }
-    w < word::MATCH
-}
-
-// The stores up to and with this word, from those before it.
-fn stores_with(stores: usize, w: u32) -> usize
-    requires { stores < 2 ^ 63 }
-    ensures { result ≡ stores + pick (is_store w) 1 0 }
-{
-    if is_store(w) {
-        return stores + 1;
-    }
-    stores
+    word::SEQ <= w && w < word::MATCH
 }
 
 // The stack's height after a word of this row.
@@ -129,6 +111,7 @@ pub fn moved(height: usize, row: meaning::Row) -> usize
 
 // The stack's height after the word, which finds what it takes. Each kind moves it by a constant's row, since a row that is handed on as a value
 // takes half as long again, at every word of a listing.
+#[tactic(auto, using(crate::proofs::Laws::kinds))]
 fn height_with(height: usize, w: u32) -> usize
     requires { (OperandFound height w) × (height < 2 ^ 63) }
     ensures { result ≡ height_of height w }
@@ -146,102 +129,96 @@ fn height_with(height: usize, w: u32) -> usize
 }
 
 // One more than the argument of a word of this operation, else 0.
+#[tactic(auto, unfolding(words::specs::Choice::pick))]
 fn reach(o: u32, w: u32) -> usize
     requires { o ≤ 14 }
     ensures { result ≡ reach_of o w }
 {
-    let first = o * operation::UNIT;
-    if w < first {
-        return 0;
-    }
-    if w < first + operation::UNIT {
+    if w / operation::UNIT == o {
         return (w % operation::UNIT) as usize + 1;
     }
     0
 }
 
-// The larger of two.
-fn larger(a: usize, b: usize) -> usize
-    ensures { result ≡ max a b }
-{
-    if a < b { b } else { a }
-}
-
 // The tally with all that the word adds to it.
+#[tactic(auto, unfolding(crate::specs::Step::tallied, words::specs::Choice::pick))]
 fn tallied(s: Tally, w: u32) -> Tally
     requires { (OperandFound s.height w) × Small s }
     ensures { result ≡ tallied_of s w }
 {
     let height = height_with(s.height, w);
     Tally {
-        stores: stores_with(s.stores, w),
+        stores: s.stores + usize::from(is_store(w)),
         height,
-        deepest: larger(s.deepest, height),
-        atoms: larger(s.atoms, reach(operation::ATOM, w)),
-        named: larger(s.named, reach(operation::REGISTER, w)),
+        deepest: s.deepest.max(height),
+        atoms: s.atoms.max(reach(operation::ATOM, w)),
+        named: s.named.max(reach(operation::REGISTER, w)),
     }
 }
 
 // An atom or a register, whose number is below 65,536, and a register's below the count too.
-fn note_name(count: usize, s: Tally, w: u32) -> Noted
+#[tactic(auto, using(crate::proofs::NotedWord::noted_words))]
+fn note_name(count: usize, s: Tally, w: u32) -> Option<Tally>
     requires { (w < word 3 0) × Small s }
     ensures { result ≡ noted count s w }
 {
     if w < word::ATOM {
-        return Noted::Unfit;
+        return None;
     }
     if 65536 <= w % operation::UNIT {
-        return Noted::Unfit;
+        return None;
     }
     if w < word::REGISTER {
-        return Noted::Fits(tallied(s, w));
+        return Some(tallied(s, w));
     }
     if count <= (w % operation::UNIT) as usize {
-        return Noted::Unfit;
+        return None;
     }
-    Noted::Fits(tallied(s, w))
+    Some(tallied(s, w))
 }
 
 // Operations 3 to 8, which have no argument and find what they take.
-fn note_plain(count: usize, s: Tally, w: u32) -> Noted
+#[tactic(auto, using(crate::proofs::NotedWord::noted_words))]
+fn note_plain(count: usize, s: Tally, w: u32) -> Option<Tally>
     requires { (word 3 0 ≤ w) × (w < word 9 0) × Small s }
     ensures { result ≡ noted count s w }
 {
     if w % operation::UNIT != 0 {
-        return Noted::Unfit;
+        return None;
     }
     let row = row_of_word(w);
     if s.height < row.takes as usize {
-        return Noted::Unfit;
+        return None;
     }
-    Noted::Fits(tallied(s, w))
+    Some(tallied(s, w))
 }
 
 // Operations from 9 on: a store of the next register, at height 1. The match fits only as the last word.
-fn note_store(count: usize, s: Tally, w: u32) -> Noted
+#[tactic(auto, using(crate::proofs::NotedWord::noted_words))]
+fn note_store(count: usize, s: Tally, w: u32) -> Option<Tally>
     requires { (word 9 0 ≤ w) × Small s }
     ensures { result ≡ noted count s w }
 {
     if word::MATCH <= w {
-        return Noted::Unfit;
+        return None;
     }
     if s.height != 1 {
-        return Noted::Unfit;
+        return None;
     }
     let a = (w % operation::UNIT) as usize;
     if a != s.stores {
-        return Noted::Unfit;
+        return None;
     }
     if 65536 <= a {
-        return Noted::Unfit;
+        return None;
     }
-    Noted::Fits(tallied(s, w))
+    Some(tallied(s, w))
 }
 
 // One step of the check: a word that is not the last, behind those of the tally, where register numbers are below the count. The kinds are told
 // by where their words lie, and each has its own call of `tallied`: so a caller's loop becomes one test for each kind, with nothing counted
 // that the kind does not change.
-pub fn note(count: usize, s: Tally, w: u32) -> Noted
+pub fn note(count: usize, s: Tally, w: u32) -> Option<Tally>
     requires { Small s }
     ensures { result ≡ noted count s w }
 {
@@ -255,66 +232,59 @@ pub fn note(count: usize, s: Tally, w: u32) -> Noted
 }
 
 // Whether the word may be the last: the match with no argument, and one value on the stack.
+#[tactic(auto, unfolding(crate::specs::Step::ended, words::specs::Choice::pick))]
 pub fn ended(s: Tally, w: u32) -> bool
     ensures { result ≡ ended_of s w }
 {
-    if w != word::MATCH {
-        return false;
-    }
-    s.height == 1
+    w == word::MATCH && s.height == 1
 }
 
 // The registers of a slice: its stores, wherever they stand.
+#[tactic(auto, using(crate::proofs::Laws::all_are_counted))]
 fn registers(listing: &[u32]) -> usize
     ensures { result ≡ registers_of listing.now }
 {
     let mut stores = 0;
-    let mut at = 0;
-    while at < listing.len() {
-        stores = stores_with(stores, listing[at]);
-        at += 1;
+    for &w in listing {
+        stores += usize::from(is_store(w));
     }
     stores
 }
 
 // Refusal 21: the first faulty word, or the word count where the listing ends early. The stores of the whole slice are
 // counted first, since they decide which registers may be named.
-pub fn checked(listing: &[u32]) -> meaning::Checked
+#[tactic(auto, using(crate::proofs::OnePass::passes))]
+pub fn checked(listing: &[u32]) -> Result<(), Fault>
     ensures { result ≡ check listing.now }
 {
     let count = registers(listing);
     let mut s = NOTHING;
-    let mut at = 0;
-    while at < listing.len() {
-        let w = listing[at];
-        let next = at + 1;
+    for (at, &w) in listing.iter().enumerate() {
         if ended(s, w) {
+            let next = at + 1;
             if next < listing.len() {
-                return meaning::Checked::Faulty(next);
+                return Err(Fault { place: next });
             }
-            return meaning::Checked::Described;
+            return Ok(());
         }
-        let Noted::Fits(t) = note(count, s, w) else {
-            return meaning::Checked::Faulty(at);
-        };
-        s = t;
-        at = next;
+        s = note(count, s, w).ok_or(Fault { place: at })?;
     }
-    meaning::Checked::Faulty(at)
+    Err(Fault {
+        place: listing.len(),
+    })
 }
 
 // The deepest stack that any expression reaches.
+#[tactic(auto, using(crate::proofs::Laws::deepens))]
 pub fn deepest(listing: &[u32]) -> usize
     requires { OperandsFound 0 listing.now }
     ensures { result ≡ deepest_of listing.now }
 {
     let mut deepest: usize = 0;
     let mut height: usize = 0;
-    let mut at = 0;
-    while at < listing.len() {
-        height = height_with(height, listing[at]);
-        deepest = larger(deepest, height);
-        at += 1;
+    for &w in listing {
+        height = height_with(height, w);
+        deepest = deepest.max(height);
     }
     deepest
 }

@@ -1,9 +1,9 @@
 -- The exit status of an answer.
-use Rattle.std.specs.Prelude.{ℕ}
-use Rattle.meaning.specs.declared.Lowered.{Lowered}
-use Rattle.meaning.specs.declared.Lowered.TheVariants.{Listing, Refused}
+use Rattle.std.specs.Prelude.{Result, Ok, Err, ℕ}
+use Rattle.meaning.specs.declared.Listing.{Listing}
+use Rattle.meaning.specs.declared.refusal.Refusal.{Refusal}
 
 -- 0 with a listing, 1 with a refusal.
-unfoldable pub status_of : Lowered → ℕ
-status_of (Listing r w d) = 0
-status_of (Refused number place) = 1
+unfoldable pub status_of : Result Listing Refusal → ℕ
+status_of (Ok listing) = 0
+status_of (Err refusal) = 1

@@ -7,16 +7,17 @@
 ghost use Rattle.std.specs.Prelude.{◌≡◌, ◌⊎◌, ◌≤◌};
 ghost use Rattle.listing_program.specs.Status.{status_of};
 
+use meaning::{Listing, Refusal};
 use std::env::Env;
 
 // The status of an answer: 0 of a listing, 1 of a refusal.
 #[tactic(auto, unfolding(crate::specs::Status::status_of))]
-pub fn status_of(answer: meaning::Lowered) -> u32
+pub fn status_of(answer: Result<Listing, Refusal>) -> u32
     ensures { result ≡ status_of answer }
 {
     match answer {
-        meaning::Lowered::Listing(_, _, _) => 0,
-        meaning::Lowered::Refused(_, _) => 1,
+        Ok(_) => 0,
+        Err(_) => 1,
     }
 }
 
@@ -26,21 +27,22 @@ fn print(rt: &(impl Print + Eprint), input: &[u8]) -> u32
 {
     let mut page = [0u8; 524416];
     let shown = lowered_text::print_input(input, &mut page);
-    let end = shown.end;
-    let answer = shown.answer;
-    let status = status_of(answer);
-    tool::put_out(rt, &page[..end], b"sva_list: standard output", status)
+    tool::put_out(
+        rt,
+        &page[..shown.end],
+        b"sva_list: standard output",
+        status_of(shown.answer),
+    )
 }
 
 // The text of the tree on standard input. One byte more than a tree may have is read, so that a longer input is seen to be longer.
-#[tactic(auto, unfolding(tool::specs::Moved::Within))]
 fn list(rt: &(impl Input + Print + Eprint)) -> u32
     ensures { result ≤ 2 }
 {
     let mut input = [0u8; 40961];
     match tool::read(rt, &mut input) {
-        tool::Moved::Bytes(length) => print(rt, &input[..length]),
-        tool::Moved::Failed(why) => {
+        Ok(length) => print(rt, &input[..length]),
+        Err(why) => {
             tool::tell(rt, b"sva_list: standard input", why);
             tool::FAILED
         }
@@ -63,8 +65,7 @@ fn help(rt: &(impl Print + Eprint)) -> u32
 pub fn sva_list_main(rt: &(impl Env + Input + Print + Eprint)) -> u32
     ensures { result ≤ 2 }
 {
-    let asked = tool::asked(rt);
-    match asked {
+    match tool::asked(rt) {
         tool::Request::Work => list(rt),
         tool::Request::Help => help(rt),
         tool::Request::Unknown => tool::put_usage(rt, b"usage: sva_list [--help] < TREE\n"),

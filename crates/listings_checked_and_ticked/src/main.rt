@@ -5,7 +5,7 @@
 // Example: `r0 match seq0: faulty 2, refused 21 2, next 777, stack 99`.
 #![tactic(auto)]
 
-use meaning::word;
+use meaning::{Fault, TickRefusal, word};
 
 // The listing's tokens as words.
 const A0: u32 = word::ATOM;
@@ -49,14 +49,12 @@ const CRL4: u32 = word::CRL + 4;
 const MATCH: u32 = word::MATCH;
 
 fn say_byte(byte: u8) {
-    io::print_decimal(1, byte as u64);
+    io::print_decimal(1, u64::from(byte));
 }
 
 fn say_bytes(bytes: &[u8]) {
-    let mut i = 0;
-    while i < bytes.len() {
-        say_byte(bytes[i]);
-        i += 1;
+    for &byte in bytes {
+        say_byte(byte);
     }
 }
 
@@ -66,21 +64,21 @@ fn say_number(word: &[u8], n: u64) {
     io::print_decimal(1, n);
 }
 
-fn say_checked(checked: meaning::Checked) {
+fn say_checked(checked: Result<(), Fault>) {
     match checked {
-        meaning::Checked::Described => {
+        Ok(()) => {
             io::write_all(1, b": described");
         }
-        meaning::Checked::Faulty(place) => say_number(b": faulty ", place as u64),
+        Err(fault) => say_number(b": faulty ", fault.place as u64),
     }
 }
 
-fn say_ticked(ticked: meaning::Ticked) {
+fn say_ticked(ticked: Result<u8, TickRefusal>) {
     match ticked {
-        meaning::Ticked::Match(bit) => say_number(b", match ", bit as u64),
-        meaning::Ticked::Refused(number, place) => {
-            say_number(b", refused ", number as u64);
-            say_number(b" ", place as u64);
+        Ok(bit) => say_number(b", match ", u64::from(bit)),
+        Err(refusal) => {
+            say_number(b", refused ", u64::from(refusal.number()));
+            say_number(b" ", refusal.place() as u64);
         }
     }
 }

@@ -3,7 +3,7 @@
 use mathlib.Core.Path.{◌≡◌, refl}
 use mathlib.Core.Logic.{◌⊎◌, inl, inr, ⊎_elim}
 use mathlib.Core.List.{List}
-use Prim.Native.Nat.{ℕ, ◌+◌, ◌*◌, ◌≤◌, ◌<◌}
+use Prim.Native.Nat.{ℕ, ◌*◌, ◌≤◌, ◌<◌}
 use native.Mathlib.Omega.{arith}
 use native.Mathlib.Decide.{ℕ_discrete}
 use lib.Dec.{eqb}
@@ -23,6 +23,10 @@ use Rattle.recorded_runs.specs.Recorded.{recorded, Counted, Throughout}
 use Rattle.matches.specs.Tables.{table_of, Ready}
 use Rattle.matches.proofs.TablesApart.{ends_before}
 use Rattle.matches.proofs.NodesOfRightTables.{occurs_matched, delayed_matched, repeated_matched, goto_matched, nonconsec_matched, throughout_matched, inside_matched}
+
+-- Of the kinds from 4 to 5 each is a goto or a nonconsecutive repetition.
+pub counts_on : (kind : ℕ) → 4 ≤ kind → kind ≤ 5 → (kind ≡ 4) ⊎ (kind ≡ 5)
+counts_on kind low high = elim (ℕ_discrete kind 4) [ yes e ↦ inl e | no e ↦ inr (omega arith) ]
 
 module _ {tree rows : List ℕ} {width side : ℕ} {tables : List ℕ} {n : ℕ} (ready : Ready tree rows width side tables n) where
   -- A lower node is one of few.
@@ -51,13 +55,6 @@ module _ {tree rows : List ℕ} {width side : ℕ} {tables : List ℕ} {n : ℕ}
     pub delay_right_below : v.kind ≡ 2 → v.q < n
     delay_right_below k = formed.delay_right k
 
-    -- The operand of a repetition is lower, and the repetition's range is in order.
-    pub repeated_below : v.kind ≡ 3 → v.p < n
-    repeated_below k = formed.consec_under k
-
-    pub repeated_in_order : v.kind ≡ 3 → v.min ≤ v.max
-    repeated_in_order k = formed.consec_range k
-
     -- The operand of a throughout is lower, and its condition stands in the row.
     pub covered_below : v.kind ≡ 6 → v.q < n
     covered_below k = formed.throughout_under k
@@ -73,26 +70,14 @@ module _ {tree rows : List ℕ} {width side : ℕ} {tables : List ℕ} {n : ℕ}
     pub two_below : v.kind ≡ 7 → v.q < n
     two_below k = formed.within_two k
 
-    -- No other kind is left than goto and nonconsecutive repetition.
-    pub counts_on : (v.kind ≡ 1 → ⊥) → (v.kind ≡ 2 → ⊥) → (v.kind ≡ 3 → ⊥) → (v.kind ≡ 6 → ⊥) → (v.kind ≡ 7 → ⊥)
-        → (v.kind ≡ 4) ⊎ (v.kind ≡ 5)
-    counts_on no-1 no-2 no-3 no-6 no-7 =
-        elim (ℕ_discrete v.kind 4) [
-          | yes e ↦ inl e
-          | no e ↦ inr (omega (arith, formed.known.0, formed.known.1))
-        ]
+    -- The node is of one of the seven kinds.
+    pub known : (1 ≤ v.kind) × (v.kind ≤ 7)
+    known = formed.known
 
     module _ (counts : (v.kind ≡ 4) ⊎ (v.kind ≡ 5)) where
       -- The operand of a goto or nonconsecutive repetition is lower.
       counted_below : v.p < n
       counted_below = ⊎_elim formed.goto_under formed.nonconsec_under counts
-
-      -- The operand of a goto or nonconsecutive repetition can be read.
-      pub counted_readable : v.p * 5 + 5 ≤ length tree
-      counted_readable = omega (arith, counted_below, ready.inside, ready.fillable.formed.whole)
-
-      pub counted_of_few : v.p < 4096
-      counted_of_few = omega (arith, operand_few counted_below)
 
       -- A goto or nonconsecutive repetition counts one at least.
       pub counted_some : 0 < v.min

@@ -1,15 +1,15 @@
--- A row is put into its table byte by byte, and a table is filled row by row, each from the ends that were found for it.
+-- A row is put into its table, and a table is filled row by row, each from the ends that were found for it.
 use mathlib.Core.Path.{◌≡◌, refl, sym, subst, ◌∙◌}
 use mathlib.Core.Logic.{◌↔◌}
 use mathlib.Core.List.{List}
 use Prim.Native.Nat.{ℕ, ◌+◌, ◌*◌, ◌≤◌, ◌<◌}
 use native.Mathlib.Omega.{arith}
-use native.Mathlib.Nat.{add-zero, add-mul, mul-le-mul_right}
+use native.Mathlib.Nat.{add-mul, mul-le-mul_right}
 use native.Mathlib.Decide.{ℕ_discrete}
-use lib.ListN.{length, get_or, set, take}
+use lib.ListN.{length, get_or, take}
 use lib.Seq.{length-take-le}
 use Rattle.words.specs.Written.{written}
-use Rattle.words.proofs.Laws.{Copying, copying_begins, copying_on, copying_ends, read_back}
+use Rattle.words.proofs.Laws.{read_back}
 use Rattle.meaning.specs.Tree.{tree_at}
 use Rattle.meaning.specs.Match.{Match}
 use Rattle.runs.specs.Ends.{Gains}
@@ -18,36 +18,11 @@ use Rattle.recorded_runs.specs.Recorded.{recorded}
 use Rattle.matches.specs.Tables.{table_of, RightRow, Ready, NoEnds, Replaced, RowFilled, TableFilled}
 use Rattle.matches.proofs.TablesApart.{ends_before, written_replaced, of_right_rows, ready_still}
 
--- The first j bytes of the row are put.
-abbrev pub RowPutting : List ℕ → List ℕ → ℕ → List ℕ → ℕ → Type 0
-RowPutting row before place after j = Copying row before place after (place + j) j
-
--- At first no byte is put.
-pub row_putting_begins : (row before : List ℕ) (place : ℕ) → RowPutting row before place before 0
-row_putting_begins row before place = rw add-zero (copying_begins row before place)
-
--- One byte more is put.
-pub row_putting_on : {row before : List ℕ} {place : ℕ} {after : List ℕ} {j : ℕ} → RowPutting row before place after j → j < length row
-    → RowPutting row before place (set after (place + j) (get_or row j 0)) (j + 1)
-unfolding written
-row_putting_on c h = copying_on c h (record { holds = refl; ends = omega arith })
-
--- At the end all bytes of the row are put.
-pub row_putting_ends : {row before : List ℕ} {place : ℕ} {after : List ℕ} {j : ℕ} → RowPutting row before place after j → length row ≤ j
-    → after ≡ written before place row
-row_putting_ends c h = (copying_ends c h).holds
-
 -- Row i of a node's table has its place among the tables.
 pub row_in_tables : {tree rows : List ℕ} {width side : ℕ} {tables : List ℕ} {n i p : ℕ} → Ready tree rows width side tables n → i < side
     → p ≡ table_of side n → p + i * side + side ≤ length tables
 row_in_tables {side = side} {i = i} ready h e =
     omega (arith, ready.fillable.enough, ends_before (side * side) ready.inside, ends_before side {k = i} {n = side} h)
-
--- A row that gained ends has its place among the tables.
-pub row_put_inside : {tree rows : List ℕ} {width : ℕ} {tables row row' : List ℕ} {n i p : ℕ} {P : ℕ → Type 0}
-    → Ready tree rows width (length row) tables n → i < length row → p ≡ table_of (length row) n → Gains row row' P
-    → p + i * length row + length row' ≤ length tables
-row_put_inside ready h e gains = omega (arith, row_in_tables ready h e, gains.long)
 
 -- A byte says what an equal one says.
 a_byte_alike : {x y : ℕ} {P : Type 0} → y ≡ x → (x ≡ 1) ↔ P → (y ≡ 1) ↔ P
@@ -83,24 +58,11 @@ module _ {tree rows : List ℕ} {width side : ℕ} {tables : List ℕ} {n : ℕ}
   pub zeros_inside : {i : ℕ} → i < side → i < length (take side zeros)
   zeros_inside h = rw zeros_long h
 
-  -- A row that is filled from the first zeros is filled.
-  pub zeros_filled : {after : List ℕ} {i : ℕ} → RowFilled tree rows width (length (take side zeros)) tables after n i
-      → RowFilled tree rows width side tables after n i
-  zeros_filled filled = rw zeros_long at filled
-
 -- The first i rows of the table of node n are filled.
 pub record TableFilling (tree rows : List ℕ) (width side : ℕ) (before after : List ℕ) (n i : ℕ) : Type 0 where
   pub inside : i ≤ side
   pub replaced : Replaced before after (table_of side n) (i * side)
   pub right : (k : ℕ) → k < i → RightRow tree rows width side after n k
-
--- At first no rows are filled.
-pub table_filling_begins : (tree rows : List ℕ) (width side : ℕ) (tables : List ℕ) (n : ℕ) → TableFilling tree rows width side tables tables n 0
-table_filling_begins tree rows width side tables n = record {
-  inside = omega arith;
-  replaced = record { long = refl; in_front = λ k h. refl; behind = λ k h. refl };
-  right = λ k h. absurd (omega arith);
-}
 
 module _ {tree rows : List ℕ} {width side : ℕ} {before after : List ℕ} {n i : ℕ}
     (f : TableFilling tree rows width side before after n i) where

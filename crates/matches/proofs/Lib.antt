@@ -2,7 +2,6 @@ pub mod RunsBelowASide
 pub mod NodesOfRightTables
 pub mod TablesApart
 pub mod FilledRows
-pub mod JoinsTwo
 pub mod FilledTables
 pub mod AnsweredTicks
 pub mod AddedEnds

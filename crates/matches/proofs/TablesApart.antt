@@ -4,7 +4,7 @@ use mathlib.Core.Logic.{⊎_elim}
 use mathlib.Core.List.{List, [], ◌∷◌}
 use Prim.Native.Nat.{ℕ, suc, ◌+◌, ◌*◌, ◌≤◌, ◌<◌}
 use native.Mathlib.Omega.{arith}
-use native.Mathlib.Nat.{mul-le-mul_right, mul-le-mul, suc-mul}
+use native.Mathlib.Nat.{mul-le-mul_right, suc-mul}
 use native.Mathlib.Decide.{dec_le}
 use lib.ListN.{length, get_or, set}
 use lib.Seq.{get_or-set_other}
@@ -20,14 +20,6 @@ use Rattle.matches.specs.Tables.{table_of, Right, RightRow, Ready, Replaced}
 -- A part of so many bytes ends where the next begins, or before.
 pub ends_before : (size : ℕ) {k n : ℕ} → k < n → k * size + size ≤ n * size
 ends_before size {k} {n} h = omega (arith, suc-mul k size, mul-le-mul_right {m = suc k} {n = n} size h)
-
--- A table is small.
-pub square_small : {side : ℕ} → side ≤ 257 → side * side ≤ 66049
-square_small h = mul-le-mul h h
-
--- All tables in front of one are small.
-pub table_small : {side n : ℕ} → side ≤ 257 → n < 64 → table_of side n ≤ 4227136
-table_small h l = mul-le-mul {n₂ = 64} (omega arith) (square_small h)
 
 -- What stands behind the place of writing is as it was.
 written_behind : (ws o : List ℕ) (at i : ℕ) → at + length ws ≤ i → get_or (written o at ws) i 0 ≡ get_or o i 0

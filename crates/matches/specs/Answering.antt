@@ -1,8 +1,8 @@
 -- What stands between a filled table and the answer: which ticks its runs end at, and the answer while work is not cleared.
 -- Example: of the table with the runs [0, 1) and [1, 1) a run ends at tick 0, and none at tick 1: an empty one has no last tick.
-use Rattle.std.specs.Prelude.{◌≡◌, List, ℕ, suc, ◌+◌, ◌≤◌, ◌<◌, length, get_or, drop}
+use Rattle.std.specs.Prelude.{Result, ◌≡◌, List, ℕ, suc, ◌+◌, ◌≤◌, ◌<◌, length, get_or, drop}
 use Rattle.recording.specs.Refusals.{judged}
-use Rattle.recording.specs.declared.Matched.{Matched}
+use Rattle.meaning.specs.declared.refusal.Refusal.{Refusal}
 use Rattle.runs.specs.Ends.{Kept}
 use Rattle.matches.specs.Answers.{Says, Holds}
 
@@ -17,7 +17,7 @@ pub record EndsPut (tables : List ℕ) (table ticks : ℕ) (before after : List 
   pub later : drop ticks after ≡ drop ticks before
 
 -- The answer and what is lent afterwards, while work still holds the tables.
-pub record Uncleared (tree rows : List ℕ) (width : ℕ) (answers answers' work work' : List ℕ) (answer : Matched) : Type 0 where
+pub record Uncleared (tree rows : List ℕ) (width : ℕ) (answers answers' work work' : List ℕ) (answer : Result ℕ Refusal) : Type 0 where
   pub answer_is : answer ≡ judged tree rows width (length answers) (length work)
   pub holds : Holds answer tree rows width answers answers'
   pub long : length work' ≡ length work

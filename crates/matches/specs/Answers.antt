@@ -1,13 +1,12 @@
 -- What the matcher answers (SPECIFICATION, "The matcher"), by the definition of a match alone: `Match`, which demand 3 speaks of too.
 -- Example: `a ##1 b` over the rows 1 0, 0 1 is answered 0 1: a match ends at tick 1.
-use Rattle.std.specs.Prelude.{◌≡◌, ◌⊎◌, List, ℕ, suc, ◌≤◌, ◌<◌, length, get_or, drop, replicate}
+use Rattle.std.specs.Prelude.{Result, Ok, Err, ◌≡◌, ◌⊎◌, List, ℕ, suc, ◌≤◌, ◌<◌, length, get_or, drop, replicate}
 use Rattle.meaning.specs.Tree.{root}
 use Rattle.meaning.specs.Match.{Match}
 use Rattle.meaning.specs.Demand3.{trace}
 use Rattle.recorded_runs.specs.Recorded.{atoms_at}
 use Rattle.recording.specs.Refusals.{judged}
-use Rattle.recording.specs.declared.Matched.{Matched}
-use Rattle.recording.specs.declared.Matched.TheVariants.{Ticks, Refused}
+use Rattle.meaning.specs.declared.refusal.Refusal.{Refusal}
 
 -- Some match of the tree, as the standard defines it, began at tick 0 or later and ends at tick n. It has a tick: "a match that has at least one tick".
 abbrev pub AMatchEnds : List ℕ → (ℕ → List ℕ) → ℕ → Type 0
@@ -24,12 +23,12 @@ pub record Answered (tree rows : List ℕ) (width ticks : ℕ) (before after : L
   pub later : drop ticks after ≡ drop ticks before
 
 -- What the answers hold; "What was lent for output is then unchanged" on a refusal.
-abbrev pub Holds : Matched → List ℕ → List ℕ → ℕ → List ℕ → List ℕ → Type 0
-Holds (Ticks ticks) tree rows width before after = Answered tree rows width ticks before after
-Holds (Refused number place) tree rows width before after = after ≡ before
+abbrev pub Holds : Result ℕ Refusal → List ℕ → List ℕ → ℕ → List ℕ → List ℕ → Type 0
+Holds (Ok ticks) tree rows width before after = Answered tree rows width ticks before after
+Holds (Err refusal) tree rows width before after = after ≡ before
 
 -- The answer, and what is lent afterwards: "work is all zero after every call".
-pub record Matches (tree rows : List ℕ) (width : ℕ) (answers answers' work work' : List ℕ) (answer : Matched) : Type 0 where
+pub record Matches (tree rows : List ℕ) (width : ℕ) (answers answers' work work' : List ℕ) (answer : Result ℕ Refusal) : Type 0 where
   pub answer_is : answer ≡ judged tree rows width (length answers) (length work)
   pub holds : Holds answer tree rows width answers answers'
   pub cleared : work' ≡ replicate (length work) 0

@@ -3,19 +3,19 @@
 // Every node has a table of its runs, (ticks + 1) squared bytes of work, filled from those of its operands by recursion on the node number.
 // So all seven kinds may stand anywhere, and the cost grows with the nodes and with the ticks alone.
 //
-// Example: `a ##1 b` over the rows 1 0, 0 1 of width 2 is answered Ticks(2) with the bytes 0 1.
+// Example: `a ##1 b` over the rows 1 0, 0 1 of width 2 is answered Ok(2), two ticks, with the bytes 0 1.
 #![tactic(auto)]
 
 ghost use Rattle.std.specs.Prelude.{◌≡◌, ◌+◌, ◌*◌, ◌≤◌, ◌<◌, length};
-ghost use Rattle.words.specs.Choice.{Tells};
-ghost use Rattle.words.specs.Written.{written};
 ghost use Rattle.meaning.specs.Tree.{tree_at, nodes};
 ghost use Rattle.meaning.specs.Match.{Match};
 ghost use Rattle.runs.specs.Ends.{Gains, Stands};
 ghost use Rattle.recorded_runs.specs.Recorded.{recorded};
-ghost use Rattle.matches.specs.Tables.{table_of, Fillable, JoinsTwo, Ready, NoEnds, RowFilled, TableFilled, Filled};
+ghost use Rattle.matches.specs.Tables.{table_of, Fillable, Ready, NoEnds, RowFilled, TableFilled, Filled};
 ghost use Rattle.matches.specs.Answers.{Says, Answered, Matches};
 ghost use Rattle.matches.specs.Answering.{EndsAt, EndsPut, Uncleared};
+
+use meaning::{Refusal, kind};
 
 // Where the table of a node begins.
 fn table_of(side: usize, n: u32) -> usize
@@ -40,42 +40,31 @@ fn add_ends_of(
 {
     let side = row.len();
     let v = tree::read(tree, n);
-    if v.kind == meaning::kind::ATOM {
-        recorded_runs::occurs(rows, width, v.p, i, row);
-        return;
-    }
-    if v.kind == meaning::kind::DELAY {
-        let left = table_of(side, v.p);
-        let right = table_of(side, v.q);
-        joined_runs::delayed(tables, left, right, v.min, v.max, i, row);
-        return;
-    }
-    if v.kind == meaning::kind::CONSECUTIVE {
-        repeated_runs::repeated(tables, table_of(side, v.p), v.min, v.max, i, row);
-        return;
-    }
-    if v.kind == meaning::kind::THROUGHOUT {
-        recorded_runs::throughout(tables, table_of(side, v.q), rows, width, v.p, i, row);
-        return;
-    }
-    if v.kind == meaning::kind::WITHIN {
-        joined_runs::inside(tables, table_of(side, v.p), table_of(side, v.q), i, row);
-        return;
-    }
-    let atom = tree::read(tree, v.p);
-    let goes_on = v.kind == meaning::kind::NONCONSECUTIVE;
-    recorded_runs::counted(rows, width, atom.p, v.min, goes_on, i, row);
-}
-
-// Puts a row into the tables at the place.
-fn put_row(tables: &mut [u8], place: usize, row: &[u8])
-    requires { place + length row.now ≤ length tables.old }
-    ensures { tables.new ≡ written tables.old place row.now }
-{
-    let mut j = 0;
-    while j < row.len() {
-        tables[place + j] = row[j];
-        j += 1;
+    match v.kind {
+        kind::ATOM => recorded_runs::occurs(rows, width, v.p, i, row),
+        kind::DELAY => {
+            let left = table_of(side, v.p);
+            let right = table_of(side, v.q);
+            joined_runs::delayed(tables, left, right, v.min, v.max, i, row);
+        }
+        kind::CONSECUTIVE => {
+            let under = table_of(side, v.p);
+            repeated_runs::repeated(tables, under, v.min, v.max, i, row);
+        }
+        kind::THROUGHOUT => {
+            let under = table_of(side, v.q);
+            recorded_runs::throughout(tables, under, rows, width, v.p, i, row);
+        }
+        kind::WITHIN => {
+            let one = table_of(side, v.p);
+            let two = table_of(side, v.q);
+            joined_runs::inside(tables, one, two, i, row);
+        }
+        _ => {
+            let atom = tree::read(tree, v.p).p;
+            let goes_on = v.kind == kind::NONCONSECUTIVE;
+            recorded_runs::counted(rows, width, atom, v.min, goes_on, i, row);
+        }
     }
 }
 
@@ -94,7 +83,7 @@ fn put_ends(
 {
     let side = row.len();
     add_ends_of(tree, rows, width, tables, n, i, row);
-    put_row(tables, table_of(side, n) + i * side, row);
+    words::copied(row, tables, table_of(side, n) + i * side);
 }
 
 // Fills row i of the table of node n.
@@ -119,21 +108,9 @@ fn fill_table(tree: &[u32], rows: &[u8], width: usize, side: usize, n: u32, tabl
     requires { Ready tree.now rows.now width side tables.old n }
     ensures { TableFilled tree.now rows.now width side tables.old tables.new n }
 {
-    let mut i = 0;
-    while i < side {
+    for i in 0..side {
         fill_row(tree, rows, width, side, n, i, tables);
-        i += 1;
     }
-}
-
-// Whether a node has two operands: a delay or a within.
-fn joins_two(v: meaning::Node) -> bool
-    ensures { Tells result (JoinsTwo v) }
-{
-    if v.kind == meaning::kind::DELAY {
-        return true;
-    }
-    v.kind == meaning::kind::WITHIN
 }
 
 // Fills the tables of node n and of all below it, the operands' first. Goto and nonconsecutive repetition read their atom off the rows.
@@ -142,39 +119,26 @@ fn fill(tree: &[u32], rows: &[u8], width: usize, side: usize, n: u32, tables: &m
     ensures { Filled tree.now rows.now width side tables.old tables.new n }
 {
     let v = tree::read(tree, n);
-    if v.kind == meaning::kind::CONSECUTIVE {
-        fill(tree, rows, width, side, v.p, tables);
-        fill_table(tree, rows, width, side, n, tables);
-        return;
-    }
-    if v.kind == meaning::kind::THROUGHOUT {
-        fill(tree, rows, width, side, v.q, tables);
-        fill_table(tree, rows, width, side, n, tables);
-        return;
-    }
-    if joins_two(v) {
-        fill(tree, rows, width, side, v.p, tables);
-        fill(tree, rows, width, side, v.q, tables);
-        fill_table(tree, rows, width, side, n, tables);
-        return;
+    match v.kind {
+        kind::CONSECUTIVE => fill(tree, rows, width, side, v.p, tables),
+        kind::THROUGHOUT => fill(tree, rows, width, side, v.q, tables),
+        kind::DELAY | kind::WITHIN => {
+            fill(tree, rows, width, side, v.p, tables);
+            fill(tree, rows, width, side, v.q, tables);
+        }
+        _ => {}
     }
     fill_table(tree, rows, width, side, n, tables);
 }
 
 // Whether a run of the table has its last tick here: one that is not empty.
+#[tactic(auto, using(runs::proofs::Laws::row_inside))]
 fn ends_at(tables: &[u8], table: usize, side: usize, tick: usize) -> u8
     requires { Stands tables.now table side × (tick + 1 < side) × (side ≤ 257) }
     ensures { Says result (EndsAt tables.now table side tick) }
 {
     let end = tick + 1;
-    let mut i = 0;
-    while i < end {
-        if tables[table + i * side + end] == 1 {
-            return 1;
-        }
-        i += 1;
-    }
-    0
+    u8::from((0..end).any(|i| tables[table + i * side + end] == 1))
 }
 
 // Puts the answers of a filled table, a byte a tick.
@@ -182,10 +146,8 @@ fn put_answers(tables: &[u8], table: usize, ticks: usize, answers: &mut [u8])
     requires { Stands tables.now table (ticks + 1) × (ticks ≤ length answers.old) × (ticks ≤ 256) }
     ensures { EndsPut tables.now table ticks answers.old answers.new }
 {
-    let mut tick = 0;
-    while tick < ticks {
-        answers[tick] = ends_at(tables, table, ticks + 1, tick);
-        tick += 1;
+    for (tick, answer) in answers[..ticks].iter_mut().enumerate() {
+        *answer = ends_at(tables, table, ticks + 1, tick);
     }
 }
 
@@ -214,15 +176,12 @@ fn matched(
     width: usize,
     answers: &mut [u8],
     work: &mut [u8],
-) -> recording::Matched
+) -> Result<usize, Refusal>
     ensures { Uncleared tree.now rows.now width answers.old answers.new work.old work.new result }
 {
-    let answer = recording::judged(tree, rows, width, answers.len(), work.len());
-    let recording::Matched::Ticks(ticks) = answer else {
-        return answer;
-    };
+    let ticks = recording::judged(tree, rows, width, answers.len(), work.len())?;
     answer_ticks(tree, rows, width, ticks, answers, work);
-    answer
+    Ok(ticks)
 }
 
 // The public entry point: a byte of answers for each tick, 1 exactly where a match of the tree ends, or a refusal.
@@ -232,10 +191,10 @@ pub fn matches(
     width: usize,
     answers: &mut [u8],
     work: &mut [u8],
-) -> recording::Matched
+) -> Result<usize, Refusal>
     ensures { Matches tree.now rows.now width answers.old answers.new work.old work.new result }
 {
     let answer = matched(tree, rows, width, answers, work);
-    words::clear_bytes(work);
+    work.fill(0);
     answer
 }

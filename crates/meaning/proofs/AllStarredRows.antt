@@ -9,14 +9,25 @@ use Rattle.meaning.specs.Tree.{node_at, tree_at, unlimited}
 use Rattle.meaning.specs.Kinds.{columns}
 use Rattle.meaning.specs.Listing.{word, rows, row_of, deepest, deepest_from}
 use Rattle.meaning.specs.Refusals.{lowest_failing, formed_node, uses_in, uses, range_node, table, limited, and_then, deep_enough, over_boolean, walk_in, walk, limited_within, walk_root, room_of, first_misplaced, misplaced}
+use Rattle.std.specs.Prelude.{Result, Ok, Err}
+use Rattle.meaning.specs.Answers.{number, place}
+use Rattle.meaning.specs.declared.Listing.{Listing}
+use Rattle.meaning.specs.declared.refusal.Refusal.{Refusal}
 use Rattle.meaning.specs.Lower.{synth_of, words_of, fits, after_walk, after_table, after_nothing, lower, output_after}
-use Rattle.meaning.specs.declared.Lowered.{Lowered}
-use Rattle.meaning.specs.declared.Lowered.TheVariants.{Listing, Refused}
+
+-- An answer as a row has it: registers, words and the deepest stack, or a refusal's number and place.
+pub data Outcome : Type 0 where
+  counts : ℕ → ℕ → ℕ → Outcome
+  refusal : ℕ → ℕ → Outcome
+
+abbrev outcome : Result Listing Refusal → Outcome
+outcome (Ok listing) = counts listing.registers listing.words listing.deepest
+outcome (Err why) = refusal (number why) (place why)
 
 -- A row: the tree's words, the answer, and the words that stand in the output.
 pub record Starred : Type 0 where
   pub tree : List ℕ
-  pub answer : Lowered
+  pub answer : Outcome
   pub words : List ℕ
 
 -- A node of each kind, as its five words.
@@ -76,10 +87,10 @@ abbrev gto : ℕ → ℕ
 gto n = word 11 n
 
 abbrev accepted : List ℕ → ℕ → ℕ → ℕ → List ℕ → Starred
-accepted t registers words deepest ws = record { tree = t; answer = Listing registers words deepest; words = ws }
+accepted t registers words deepest ws = record { tree = t; answer = counts registers words deepest; words = ws }
 
 abbrev refused : List ℕ → ℕ → ℕ → Starred
-refused t number place = record { tree = t; answer = Refused number place; words = [] }
+refused t n p = record { tree = t; answer = refusal n p; words = [] }
 
 -- a, b, c are the atoms 0, 1, 2; the rows stand in the specification's order.
 pub starred : List Starred
@@ -105,26 +116,26 @@ starred =
     ∷ []
 
 -- An answer, and what the output then holds.
-pub record Result : Type 0 where
-  pub answer : Lowered
+pub record Answered : Type 0 where
+  pub answer : Outcome
   pub output : List ℕ
 
-abbrev result : Lowered → List ℕ → Result
-result answer output = record { answer = answer; output = output }
+abbrev answered : Outcome → List ℕ → Answered
+answered answer output = record { answer = answer; output = output }
 
 -- An output of 16 words, filled with what no listing has.
 abbrev lent : List ℕ
 lent = replicate 16 99
 
 -- What the row says: its answer, and its words in front of what stood in the output.
-abbrev stated : Starred → Result
-stated row = result row.answer (written lent 0 row.words)
+abbrev stated : Starred → Answered
+stated row = answered row.answer (written lent 0 row.words)
 
 -- What lowering answers and writes, with room for 64 entries.
-abbrev found : Starred → Result
+abbrev found : Starred → Answered
 found row =
     let answer = lower row.tree 1024 16 0 in
-    result answer (output_after answer row.tree 0 lent)
+    answered (outcome answer) (output_after answer row.tree 0 lent)
 
 pub the_starred_rows_hold : map found starred ≡ map stated starred
 unfolding starred lower after_nothing table lowest_failing formed_node uses_in uses range_node columns node_at tree_at after_table walk_root walk walk_in deep_enough limited and_then over_boolean limited_within room_of misplaced first_misplaced after_walk synth_of words_of fits rows row_of deepest deepest_from output_after written pick

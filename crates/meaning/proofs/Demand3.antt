@@ -22,9 +22,7 @@ use Rattle.meaning.specs.Check.{check}
 use Rattle.meaning.specs.Tick.{tick}
 use Rattle.meaning.specs.Lower.{synth_of, words_of, lower}
 use Rattle.meaning.specs.Demand3.{ThroughoutOnTop, trace, Running}
-use Rattle.meaning.specs.declared.Lowered.TheVariants.{Listing}
-use Rattle.meaning.specs.declared.Checked.TheVariants.{Described}
-use Rattle.meaning.specs.declared.Ticked.TheVariants.{Match as MatchBit}
+use Rattle.meaning.specs.Answers.{listed, described, ticked}
 use Rattle.meaning.proofs.Values.{val}
 use Rattle.meaning.proofs.Uses.{SynthUses}
 use Rattle.meaning.proofs.Bounds.{a_lowered_tree_is_bounded}
@@ -35,12 +33,12 @@ use Rattle.meaning.proofs.MatchRuns.{the_match_is_the_standards}
 use Rattle.meaning.proofs.ListingAnswer.{PassedAll, a_listed_table_passed_all, a_listed_tree_is_acceptable}
 
 -- A match bit of 1 is a value that holds.
-bit_is_1 : (b : Bool) → (MatchBit (bit b) ≡ MatchBit 1) ↔ T b
+bit_is_1 : (b : Bool) → (ticked (bit b) ≡ ticked 1) ↔ T b
 bit_is_1 true = (λ e. tt, λ h. refl)
 bit_is_1 false = (λ e. let z : ◌≡◌ {A = ℕ} 0 1 = cc in absurd (omega arith), λ h. absurd h)
 
 -- One tree that lowering accepts, with the numbers of its answer.
-module _ (t : List ℕ) (work out r w d : ℕ) (accepted : lower t work out 0 ≡ Listing r w d) where
+module _ (t : List ℕ) (work out r w d : ℕ) (accepted : lower t work out 0 ≡ listed r w d) where
   abbrev o : Synth
   o = synth_of t 0
 
@@ -55,7 +53,7 @@ module _ (t : List ℕ) (work out r w d : ℕ) (accepted : lower t work out 0 �
   bounded = a_lowered_tree_is_bounded (length o.stores) (root t) passed.ranged 0 (omega arith)
 
   -- An accepted lowering's listing passes the check.
-  pub an_accepted_listing_passes_the_check : check (words_of t 0) ≡ Described
+  pub an_accepted_listing_passes_the_check : check (words_of t 0) ≡ described
   unfolding words_of
   an_accepted_listing_passes_the_check = a_lowered_listing_passes_the_check o few bounded
 
@@ -76,13 +74,13 @@ module _ (t : List ℕ) (work out r w d : ℕ) (accepted : lower t work out 0 �
   module _ (atoms cur next : ℕ → List ℕ) (stack : ℕ → ℕ) (running : Running (words_of t 0) atoms cur next stack) where
     -- Tick answers at every tick, and never refuses: buffers of the counted sizes are enough.
     pub an_accepted_listing_is_never_refused : (k : ℕ)
-        → tick (words_of t 0) (cur k) (atoms k) (length (next k)) (stack k) ≡ MatchBit (bit (val o.cur (trace cur k) (trace atoms k)))
+        → tick (words_of t 0) (cur k) (atoms k) (length (next k)) (stack k) ≡ ticked (bit (val o.cur (trace cur k) (trace atoms k)))
     unfolding words_of
     an_accepted_listing_is_never_refused k = a_running_listing_answers_its_match o few bounded atoms cur next stack running k
 
     -- DEMAND 3.
     pub lower_meets_the_standard : ThroughoutOnTop (root t) → (k : ℕ)
-        → (tick (words_of t 0) (cur k) (atoms k) (length (next k)) (stack k) ≡ MatchBit 1)
+        → (tick (words_of t 0) (cur k) (atoms k) (length (next k)) (stack k) ≡ ticked 1)
         ↔ ((i : ℕ) × (i ≤ k) × Match (trace atoms) (root t) i (suc k))
     unfolding words_of synth_of
     lower_meets_the_standard top k =

@@ -18,7 +18,7 @@ use Rattle.meaning.specs.Refusals.{uses_p, uses_q, uses_in, uses, table}
 use Rattle.meaning.specs.Lowerable.{FormedTable}
 use Rattle.meaning.specs.Demand3.{Unconditional, ThroughoutOnTop, OnTopInTheTable}
 use Rattle.meaning.specs.declared.Node.{Node}
-use Rattle.meaning.specs.declared.Table.TheVariants.{Formed}
+use Rattle.meaning.specs.Answers.{formed as table_formed}
 use Rattle.meaning.proofs.Nodes.{at_atom, at_delay, at_consec, at_goto, at_nonconsec, at_throughout, at_within}
 use Rattle.meaning.proofs.Roots.{by_throughouts}
 use Rattle.meaning.proofs.Formed.{p_is_lower, q_is_lower, each_node_is_formed, a_formed_table, each_node_is_used_once}
@@ -133,7 +133,7 @@ module _ (t : List ℕ) (n : ℕ) where
   }
 
 -- A table that passed 1, 2 and 3.
-module _ (t : List ℕ) (checked : table t ≡ Formed) where
+module _ (t : List ℕ) (checked : table t ≡ table_formed) where
   formed : FormedTable t
   formed = a_formed_table t checked
 
@@ -263,5 +263,5 @@ module _ (t : List ℕ) (checked : table t ≡ Formed) where
         ]
 
 -- The premise of demand 3, of the tree and of the table's words.
-pub the_premise_is_the_tables : (t : List ℕ) → table t ≡ Formed → ThroughoutOnTop (root t) ↔ OnTopInTheTable t
+pub the_premise_is_the_tables : (t : List ℕ) → table t ≡ table_formed → ThroughoutOnTop (root t) ↔ OnTopInTheTable t
 the_premise_is_the_tables t e = (to_the_table t e, to_the_tree t e)

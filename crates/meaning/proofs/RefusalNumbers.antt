@@ -10,44 +10,44 @@ use Rattle.meaning.specs.Tree.{finite, unbounded, Seq, atom, delay, consec, goto
 use Rattle.meaning.specs.Alternative.{SeqAlt, expand}
 use Rattle.meaning.specs.Refusals.{lowest_failing, formed_node, used_once, range_node, table, entries, plain, limited, and_then, deep_enough, is_boolean, over_boolean, walk_in, walk, limited_within, walk_rooted, walk_root, room_of, Found, at, nowhere, misplaced}
 use Rattle.meaning.specs.Lower.{words_of, synth_of, fits, after_walk, after_table, after_nothing, lower}
-use Rattle.meaning.specs.declared.Table.{Table}
-use Rattle.meaning.specs.declared.Table.TheVariants.{Formed, Refused as Misformed}
-use Rattle.meaning.specs.declared.Walked.{Walked}
-use Rattle.meaning.specs.declared.Walked.TheVariants.{Counted, Refused as Stopped}
-use Rattle.meaning.specs.declared.Lowered.{Lowered}
-use Rattle.meaning.specs.declared.Lowered.TheVariants.{Listing, Refused}
+use Rattle.std.specs.Prelude.{Result, Ok, Err}
+use Rattle.meaning.specs.Answers.{number as number_of, formed}
+use Rattle.meaning.specs.declared.Counts.{Counts}
+use Rattle.meaning.specs.declared.Listing.{Listing}
+use Rattle.meaning.specs.declared.refusal.Refusal.{Refusal}
+use Rattle.meaning.specs.declared.refusal.Refusal.TheVariants.{Malformed, NotUsedOnce, OutOfOrder}
 
 -- A number of the table, and answers that have no other where they refuse.
 abbrev RefusalNumber : ℕ → Type 0
 RefusalNumber number = (1 ≤ number) × (number ≤ 14)
 
-abbrev TableNumbered : Table → Type 0
-TableNumbered Formed = Unit {0}
-TableNumbered (Misformed number place) = RefusalNumber number
+abbrev TableNumbered : Result (Unit {0}) Refusal → Type 0
+TableNumbered (Ok passed) = Unit {0}
+TableNumbered (Err refusal) = RefusalNumber (number_of refusal)
 
-abbrev WalkNumbered : Walked → Type 0
-WalkNumbered (Counted c) = Unit {0}
-WalkNumbered (Stopped number place) = RefusalNumber number
+abbrev WalkNumbered : Result Counts Refusal → Type 0
+WalkNumbered (Ok c) = Unit {0}
+WalkNumbered (Err refusal) = RefusalNumber (number_of refusal)
 
-abbrev pub Numbered : Lowered → Type 0
-Numbered (Listing registers words deepest) = Unit {0}
-Numbered (Refused number place) = RefusalNumber number
+abbrev pub Numbered : Result Listing Refusal → Type 0
+Numbered (Ok listing) = Unit {0}
+Numbered (Err refusal) = RefusalNumber (number_of refusal)
 
 -- The refusals 1, 2 and 3 have their numbers.
-lowest_failing_numbered : (refusal : ℕ) → RefusalNumber refusal → (test : ℕ → Bool) (count n : ℕ) (then : Table) → TableNumbered then
+lowest_failing_numbered : (refusal : ℕ → Refusal) → ((n : ℕ) → RefusalNumber (number_of (refusal n))) → (test : ℕ → Bool) (count n : ℕ) (then : Result (Unit {0}) Refusal) → TableNumbered then
     → TableNumbered (lowest_failing refusal test count n then)
 unfolding lowest_failing
 lowest_failing_numbered refusal l test zero n then p = p
 lowest_failing_numbered refusal l test (suc count) n then p =
-    pick_case TableNumbered (test n) (λ _. lowest_failing_numbered refusal l test count (n + 1) then p) (λ _. l)
+    pick_case TableNumbered (test n) (λ _. lowest_failing_numbered refusal l test count (n + 1) then p) (λ _. l n)
 
 table_numbered : (t : List ℕ) → TableNumbered (table t)
 unfolding table
 table_numbered t =
     let one : RefusalNumber 1 = omega arith in
-    let ranges = lowest_failing_numbered 3 (omega arith) (λ n. range_node (node_at t n)) (nodes t) 0 Formed tt in
-    let once = lowest_failing_numbered 2 (omega arith) (used_once t) (below (nodes t)) 0 _ ranges in
-    let formed = lowest_failing_numbered 1 one (λ n. formed_node n (node_at t n)) (nodes t) 0 _ once in
+    let ranges = lowest_failing_numbered OutOfOrder (λ n. omega arith) (λ n. range_node (node_at t n)) (nodes t) 0 formed tt in
+    let once = lowest_failing_numbered NotUsedOnce (λ n. omega arith) (used_once t) (below (nodes t)) 0 _ ranges in
+    let formed = lowest_failing_numbered Malformed (λ n. one) (λ n. formed_node n (node_at t n)) (nodes t) 0 _ once in
     pick_case TableNumbered (eqb (length t % 5) 0)
     (λ _. pick_case TableNumbered (eqb (length t) 0) (λ _. one) (λ _. pick_case TableNumbered (ltb 20480 (length t)) (λ _. one) (λ _. formed)))
     (λ _. one)
@@ -59,16 +59,16 @@ limited_numbered room n alts =
     pick_case WalkNumbered (ltb 256 (length alts)) (λ _. omega arith)
     (λ _. pick_case WalkNumbered (ltb room (entries alts)) (λ _. omega arith) (λ _. tt))
 
-and_then_numbered : (under next : Walked) → WalkNumbered under → WalkNumbered next → WalkNumbered (and_then under next)
+and_then_numbered : (under next : Result Counts Refusal) → WalkNumbered under → WalkNumbered next → WalkNumbered (and_then under next)
 unfolding and_then
-and_then_numbered (Counted c) next p q = q
-and_then_numbered (Stopped number place) next p q = p
+and_then_numbered (Ok c) next p q = q
+and_then_numbered (Err refusal) next p q = p
 
-deep_enough_numbered : (d : ℕ) (s : Seq) (answer : Walked) → WalkNumbered answer → WalkNumbered (deep_enough d s answer)
+deep_enough_numbered : (d : ℕ) (s : Seq) (answer : Result Counts Refusal) → WalkNumbered answer → WalkNumbered (deep_enough d s answer)
 unfolding deep_enough
 deep_enough_numbered d s answer p = pick_case WalkNumbered (ltb 256 d) (λ _. omega arith) (λ _. p)
 
-over_boolean_numbered : (n count : ℕ) (x : Operand) (answer : Walked) → WalkNumbered answer → WalkNumbered (over_boolean n count x answer)
+over_boolean_numbered : (n count : ℕ) (x : Operand) (answer : Result Counts Refusal) → WalkNumbered answer → WalkNumbered (over_boolean n count x answer)
 unfolding over_boolean
 over_boolean_numbered n count x answer p =
     pick_case WalkNumbered (ltb 256 count) (λ _. omega arith) (λ _. pick_case WalkNumbered (is_boolean x) (λ _. p) (λ _. omega arith))
@@ -126,15 +126,15 @@ unfolding after_walk
 after_walk_numbered (at i) t first out = omega arith
 after_walk_numbered nowhere t first out = fits_numbered (length (synth_of t first).stores) (words_of t first) first out
 
-after_table_numbered : (walked : Walked) → WalkNumbered walked → (t : List ℕ) (first out : ℕ) → Numbered (after_table walked t first out)
+after_table_numbered : (walked : Result Counts Refusal) → WalkNumbered walked → (t : List ℕ) (first out : ℕ) → Numbered (after_table walked t first out)
 unfolding after_table
-after_table_numbered (Stopped number place) p t first out = p
-after_table_numbered (Counted c) p t first out = after_walk_numbered (misplaced (root t)) t first out
+after_table_numbered (Err refusal) p t first out = p
+after_table_numbered (Ok c) p t first out = after_walk_numbered (misplaced (root t)) t first out
 
-after_nothing_numbered : (checked : Table) → TableNumbered checked → (t : List ℕ) (work out first : ℕ) → Numbered (after_nothing checked t work out first)
+after_nothing_numbered : (checked : Result (Unit {0}) Refusal) → TableNumbered checked → (t : List ℕ) (work out first : ℕ) → Numbered (after_nothing checked t work out first)
 unfolding after_nothing
-after_nothing_numbered (Misformed number place) p t work out first = p
-after_nothing_numbered Formed p t work out first = after_table_numbered _ (walk_root_numbered (room_of work) (root t)) t first out
+after_nothing_numbered (Err refusal) p t work out first = p
+after_nothing_numbered (Ok passed) p t work out first = after_table_numbered _ (walk_root_numbered (room_of work) (root t)) t first out
 
 -- Whatever lowering refuses, it refuses with a number from 1 to 14.
 pub refusals_are_numbered_from_1_to_14 : (t : List ℕ) (work out first : ℕ) → Numbered (lower t work out first)

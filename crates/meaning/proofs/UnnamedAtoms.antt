@@ -15,10 +15,9 @@ use Rattle.words.specs.Written.{written}
 use Rattle.meaning.specs.Listing.{operation, argument, registers, Names, atoms_named}
 use Rattle.meaning.specs.Check.{check}
 use Rattle.meaning.specs.Tick.{stack_after, stored, matched, too_short, all_bits, named_bits, bits, tick_if, tick, next_after, AlikeWhereNamed}
-use Rattle.meaning.specs.declared.Checked.{Checked}
-use Rattle.meaning.specs.declared.Checked.TheVariants.{Described, Faulty}
-use Rattle.meaning.specs.declared.Ticked.{Ticked}
-use Rattle.meaning.specs.declared.Ticked.TheVariants.{Match, Refused}
+use Rattle.std.specs.Prelude.{Result, Ok, Err}
+use Rattle.meaning.specs.declared.refusal.Fault.{Fault}
+use Rattle.meaning.specs.declared.refusal.TickRefusal.{TickRefusal}
 
 -- Slices are alike where named when the byte of an atom that is not named is set to any other.
 pub an_unnamed_byte_may_be_any : (ws atoms : List ℕ) (a byte : ℕ) → (Names ws a → ⊥) → AlikeWhereNamed ws atoms (set atoms a byte)
@@ -103,13 +102,13 @@ module _ (cur atoms atoms' : List ℕ) where
   unfolding tick tick_if too_short
   unnamed_atoms_change_no_answer ws alike next stack = go (check ws)
     where
-      go : (c : Checked) → tick_if c ws cur atoms next stack ≡ tick_if c ws cur atoms' next stack
-      go (Faulty place) = refl
-      go Described = rw (as_long ws alike, bits_alike ws alike, matches_alike ws [] alike) refl
+      go : (c : Result (Unit {0}) Fault) → tick_if c ws cur atoms next stack ≡ tick_if c ws cur atoms' next stack
+      go (Err fault) = refl
+      go (Ok passed) = rw (as_long ws alike, bits_alike ws alike, matches_alike ws [] alike) refl
 
   -- Where the atoms are alike, the same is left in next.
-  pub unnamed_atoms_change_no_register : (answer : Ticked) (ws : List ℕ) → AlikeWhereNamed ws atoms atoms' → (next : List ℕ)
+  pub unnamed_atoms_change_no_register : (answer : Result ℕ TickRefusal) (ws : List ℕ) → AlikeWhereNamed ws atoms atoms' → (next : List ℕ)
       → next_after answer ws cur atoms next ≡ next_after answer ws cur atoms' next
   unfolding next_after
-  unnamed_atoms_change_no_register (Match bit) ws alike next = ap (written next 0) (stores_alike ws [] alike)
-  unnamed_atoms_change_no_register (Refused number place) ws alike next = refl
+  unnamed_atoms_change_no_register (Ok bit) ws alike next = ap (written next 0) (stores_alike ws [] alike)
+  unnamed_atoms_change_no_register (Err refusal) ws alike next = refl

@@ -1,5 +1,5 @@
-// The plain types that the definitions and the code share, and the numbers of kinds and operations. No function stands here:
-// what the types mean is in specs/, and demand 3 about them is in proofs/Demand3.antt.
+// The plain types that the definitions and the code share, the numbers of kinds and operations, and the refusals. What the types mean is in
+// specs/, and demand 3 about them is in proofs/Demand3.antt.
 //
 // Example: `a ##1 b` is the table 1,0,0,0,0, 1,1,0,0,0, 2,0,1,1,1, three nodes, read as `Node`s. It has one alternative of
 // two steps, Bool(0) and Bool(1), the second reached by Fixed(1).
@@ -7,7 +7,10 @@
 
 pub mod kind;
 pub mod operation;
+mod refusal;
 pub mod word;
+
+pub use refusal::{Fault, Refusal, TickRefusal};
 
 // Five words of a tree table.
 #[derive(Clone, Copy)]
@@ -20,7 +23,7 @@ pub struct Node {
 }
 
 // What p or q of a node is, by the node's kind.
-#[derive(Clone, Copy)]
+#[derive(Clone, Copy, PartialEq, Eq)]
 pub enum Part {
     Unused,
     Operand,
@@ -28,7 +31,7 @@ pub enum Part {
 }
 
 // What min and max of a node are together, by the node's kind.
-#[derive(Clone, Copy)]
+#[derive(Clone, Copy, PartialEq, Eq)]
 pub enum Span {
     Unused,
     Range,
@@ -77,25 +80,12 @@ pub struct Counts {
     pub guarded: bool,
 }
 
-// The table's checks: refusals 1 to 3, number and place.
-#[derive(Clone, Copy)]
-pub enum Table {
-    Formed,
-    Refused(u32, u32),
-}
-
-// The walk's answer at a node: refusals 4 to 11, number and place.
-#[derive(Clone, Copy)]
-pub enum Walked {
-    Counted(Counts),
-    Refused(u32, u32),
-}
-
-// The answer of lowering: registers, words and deepest stack, or a refusal's number and place.
-#[derive(Clone, Copy)]
-pub enum Lowered {
-    Listing(usize, usize, usize),
-    Refused(u32, u32),
+// What lowering made of a tree: how many registers and words, and how deep a stack.
+#[derive(Clone, Copy, PartialEq, Eq)]
+pub struct Listing {
+    pub registers: usize,
+    pub words: usize,
+    pub deepest: usize,
 }
 
 // What an operation takes from the stack and leaves on it.
@@ -103,18 +93,4 @@ pub enum Lowered {
 pub struct Row {
     pub takes: u32,
     pub leaves: u32,
-}
-
-// The check of a listing: refusal 21 has the first faulty word.
-#[derive(Clone, Copy)]
-pub enum Checked {
-    Described,
-    Faulty(usize),
-}
-
-// The answer of a tick: the match bit, or a refusal's number and place.
-#[derive(Clone, Copy)]
-pub enum Ticked {
-    Match(u8),
-    Refused(u32, usize),
 }

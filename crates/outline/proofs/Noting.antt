@@ -8,14 +8,14 @@ use native.Mathlib.Omega.{arith}
 use native.Mathlib.Decide.{ℕ_discrete}
 use lib.ListN.{length}
 use lib.Seq.{get_or-set_same, get_or-set_other}
+use Rattle.std.specs.Prelude.{Result, Ok}
 use Rattle.words.specs.Choice.{pick_false}
 use Rattle.words.specs.Written.{written}
 use Rattle.words.proofs.Laws.{length-written}
 use Rattle.words.proofs.Taken.{no_test}
 use Rattle.meaning.specs.declared.Node.{Node}
 use Rattle.meaning.specs.declared.Counts.{Counts}
-use Rattle.meaning.specs.declared.Walked.{Walked}
-use Rattle.meaning.specs.declared.Walked.TheVariants.{Counted}
+use Rattle.meaning.specs.declared.refusal.Refusal.{Refusal}
 use Rattle.meaning.specs.Tree.{Max, finite, unbounded, Seq, atom, delay, consec, goto, nonconsec, throughout, within, node_at, unlimited, tree_at, nodes}
 use Rattle.meaning.specs.Refusals.{walk}
 use Rattle.meaning.specs.Lowerable.{FormedTable}
@@ -72,8 +72,8 @@ unfolding Outlined
 copied_outlined t o n s m zero live under own = absurd (omega arith)
 copied_outlined t o n s m (suc x) live under own = (under, own)
 
-module _ (t : List ℕ) (n : ℕ) (o : List ℕ) {o' : List ℕ} (b room d : ℕ) {z : Walked} {c : Counts} (inside : n < nodes t)
-    (left : b ≡ bare (tree_at t n)) (answer : z ≡ walk room d (tree_at t n)) (e : z ≡ Counted c) (put : o' ≡ noted o n b z) where
+module _ (t : List ℕ) (n : ℕ) (o : List ℕ) {o' : List ℕ} (b room d : ℕ) {z : Result Counts Refusal} {c : Counts} (inside : n < nodes t)
+    (left : b ≡ bare (tree_at t n)) (answer : z ≡ walk room d (tree_at t n)) (e : z ≡ Ok c) (put : o' ≡ noted o n b z) where
   -- What was put is the node's own word, since what the walk counts is the expansion.
   own_word_put : o' ≡ written o n (outline_word (tree_at t n) ∷ [])
   unfolding noted outline_word

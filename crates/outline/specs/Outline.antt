@@ -3,13 +3,12 @@
 -- which node is left of it without the [*1] over it, so that these are passed at one stroke; and whether an alternative has a
 -- guard, so that guards are looked for only where there are some.
 -- Example: of the outline of `a[*1] ##[3:4] b`, the words of a and a[*1] are the same: 1 alternative, node 0, no guard.
-use Rattle.std.specs.Prelude.{Bool, false, not, ◌≡◌, List, [], ◌∷◌, ℕ, zero, suc, ◌+◌, ◌*◌, ◌<◌, ◌≤◌, ◌/◌, ◌%◌, eqb, length, get_or}
+use Rattle.std.specs.Prelude.{Result, Ok, Err, Bool, false, not, ◌≡◌, List, [], ◌∷◌, ℕ, zero, suc, ◌+◌, ◌*◌, ◌<◌, ◌≤◌, ◌/◌, ◌%◌, eqb, length, get_or}
 use Rattle.words.specs.Choice.{pick}
 use Rattle.words.specs.Written.{written}
 use Rattle.meaning.specs.declared.Node.{Node}
 use Rattle.meaning.specs.declared.Counts.{Counts}
-use Rattle.meaning.specs.declared.Walked.{Walked}
-use Rattle.meaning.specs.declared.Walked.TheVariants.{Counted, Refused}
+use Rattle.meaning.specs.declared.refusal.Refusal.{Refusal}
 use Rattle.meaning.specs.Tree.{Max, finite, unbounded, Seq, atom, delay, consec, goto, nonconsec, throughout, within, node_at, unlimited, tree_at, nodes, below}
 use Rattle.meaning.specs.Alternative.{expand}
 use Rattle.meaning.specs.Refusals.{guarded, counts}
@@ -58,18 +57,9 @@ unfoldable pub flag_in : List ℕ → ℕ → ℕ
 flag_in o n = get_or o n 0 / 2097152
 
 -- The outline with the word of node n, where its alternatives were counted.
-unfoldable pub noted : List ℕ → ℕ → ℕ → Walked → List ℕ
-noted o n bare (Counted c) = written o n (counted_word c bare ∷ [])
-noted o n bare (Refused refusal place) = o
-
--- What holds where the answer counts; a refusal promises nothing.
-pub record WhereCounted (answer : Walked) (P : Type 0) : Type 0 where
-  pub holds : (c : Counts) → answer ≡ Counted c → P
-
--- 10: an answer that counts has at most 256 alternatives.
-unfoldable pub FewCounted : Walked → Type 0
-FewCounted (Counted c) = c.alternatives ≤ 256
-FewCounted (Refused refusal place) = Unit {0}
+unfoldable pub noted : List ℕ → ℕ → ℕ → Result Counts Refusal → List ℕ
+noted o n bare (Ok c) = written o n (counted_word c bare ∷ [])
+noted o n bare (Err refusal) = o
 
 -- The word of node n of the table is in the outline.
 abbrev pub Noted : List ℕ → List ℕ → ℕ → Type 0

@@ -14,10 +14,8 @@ use Rattle.words.proofs.Laws.{same_words, first_room, second_room, both_done, th
 use Rattle.meaning.specs.Alternative.{SeqAlt}
 use Rattle.meaning.specs.Expression.{seq}
 use Rattle.term.specs.declared.Kept.{Kept}
-use Rattle.term.specs.Keeping.{guard_of, without_guard, Whole}
-use Rattle.term.proofs.Keeping.{no_guard, whole_without_guard}
-use Rattle.step_text.specs.Text.{register_word, and_word, or_word, store_word}
-use Rattle.pipeline.specs.Stores.{delay_store_words, alternative_store_words}
+use Rattle.step_text.specs.Text.{and_word, or_word, store_word}
+use Rattle.pipeline.specs.Stores.{more_delays, alternative_store_words}
 use Rattle.pipeline.proofs.Laws.{fixed_rest_room, fixed_done}
 use Rattle.alternative.specs.Alternatives.{registers_in}
 use Rattle.alternative.specs.Keeping.{Holds, kept_text}
@@ -26,23 +24,14 @@ use Rattle.pair.specs.declared.Pair.{Pair}
 use Rattle.pair.specs.Pairs.{Fitted, delay_texts, joining, pair_registers, pair_stores, pair_text, slide_store_words, slid_text_words, kept_pair_registers, first_delay, kept_pair_stores, kept_pair_text, Slid, PlacedPair, Marked}
 use Rattle.pair.proofs.Delays.{length-ored}
 
--- The delays of a text take no guard.
-module _ (W : List ℕ) (a : Kept) {bare : Kept} (e : bare ≡ without_guard a) where
-  pub slide_whole : Whole W a → Whole W bare
-  slide_whole whole = rw e (whole_without_guard whole)
+-- The delays of a text have no guard.
+module _ (W : List ℕ) (a : Kept) (r : ℕ) {d : ℕ} (some : d ≡ 0 → ⊥) {at u v : ℕ} {o o₁ o₂ : List ℕ} (x : Wrote o o₁ at u (kept_text W a))
+    (y : Wrote o₁ o₂ u v (store_word seq r ∷ [])) where
+  pub slide_rest_room : at + length (slide_store_words W a r d) ≤ length o → v + length (more_delays [] (r + 1) (d - 1)) ≤ length o₂
+  slide_rest_room h = fixed_rest_room [] r (kept_text W a) some h x y
 
-  bare_guard : guard_of W bare ≡ []
-  bare_guard = rw e (no_guard W a)
-
-  module _ (r : ℕ) {d : ℕ} (some : d ≡ 0 → ⊥) {at u v : ℕ} {o o₁ o₂ : List ℕ} (x : Wrote o o₁ at u (kept_text W a))
-      (y : Wrote o₁ o₂ u v (store_word seq r ∷ [])) where
-    pub slide_rest_room : at + length (slide_store_words W a r d) ≤ length o
-        → v + length (delay_store_words (guard_of W bare) (r + 1) (d - 1) (register_word (r + 1 - 1) ∷ guard_of W bare)) ≤ length o₂
-    slide_rest_room h = rw bare_guard (fixed_rest_room [] r (kept_text W a) some h x y)
-
-    pub slide_done : {p : ℕ} {o₃ : List ℕ} → Wrote o₂ o₃ v p (delay_store_words (guard_of W bare) (r + 1) (d - 1) (register_word (r + 1 - 1) ∷ guard_of W bare))
-        → Wrote o o₃ at p (slide_store_words W a r d)
-    slide_done z = fixed_done [] r (kept_text W a) some x y (rw bare_guard at z)
+  pub slide_done : {p : ℕ} {o₃ : List ℕ} → Wrote o₂ o₃ v p (more_delays [] (r + 1) (d - 1)) → Wrote o o₃ at p (slide_store_words W a r d)
+  slide_done z = fixed_done [] r (kept_text W a) some x y z
 
 -- The text of an alternative with the registers behind its own ORed to it.
 module _ (W : List ℕ) (a : Kept) (r d : ℕ) where

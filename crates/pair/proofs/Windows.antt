@@ -11,8 +11,6 @@ use Rattle.term.specs.Keeping.{step_of, steps_from, steps_of, Whole}
 
 -- The hops before the k-th step are summed, and those from it on are left.
 pub record Windowing (W : List ℕ) (a : Kept) (total k : ℕ) : Type 0 where
-  pub begun : 1 ≤ k
-  pub turn : k ≤ a.steps
   pub low : total ≤ 1 + k * 4294967295
   pub rest : window_len (steps_of W a) ≡ total + hop_sum (steps_from W a k (a.steps - k))
 
@@ -21,8 +19,6 @@ unfolding steps_from
 windowing_begins {W} {a} whole =
     let e : a.steps ≡ suc (a.steps - 1) = omega (arith, whole.some) in
     record {
-      begun = omega arith;
-      turn = whole.some;
       low = omega arith;
       rest = ap (λ (c : ℕ). window_len (steps_from W a 0 c)) e ∙ omega arith;
     }
@@ -31,8 +27,6 @@ pub windowing_on : {W : List ℕ} {a : Kept} {total k d : ℕ} {s : SeqStep} →
     → d ≤ 4294967295 → Windowing W a (total + d) (k + 1)
 unfolding steps_from
 windowing_on {W} {a} {total} {k} {d} {s} w h e q small = record {
-  begun = omega arith;
-  turn = omega arith;
   low = omega (arith, w.low);
   rest =
       let f : a.steps - k ≡ suc (a.steps - (k + 1)) = omega arith in

@@ -16,6 +16,7 @@ ghost use Rattle.pair.specs.Pairs.{delay_texts, joining, slide_store_words, slid
 ghost use Rattle.pair.specs.Sizes.{pair_size_of, longest_text, longest_pair_text};
 
 use meaning::word;
+use term::Alternative;
 
 // An alternative of seq1 and one of seq2, and by how many further delays the first may end before the second.
 #[derive(Clone, Copy)]
@@ -38,48 +39,48 @@ fn hop_length(h: meaning::SeqHop) -> u64
     ensures small { result ≤ 4294967295 }
 {
     match h {
-        meaning::SeqHop::Fixed(d) => d as u64,
+        meaning::SeqHop::Fixed(d) => u64::from(d),
         meaning::SeqHop::AtLeast(_) => 0,
     }
 }
 
 // The ticks of a kept alternative of Bool terms and fixed hops, summed exactly: the sum can pass 2^32.
-pub fn window_len(work: &[u32], kept: term::Kept) -> u64
-    requires { Whole work.now kept }
-    ensures value { result ≡ window_len (steps_of work.now kept) }
+pub fn window_len(y: Alternative<'_>) -> u64
+    ensures value { result ≡ window_len (steps_of y.entry.work.now y.entry.kept) }
     ensures small { result ≤ longest_window }
 {
     let mut total: u64 = 1;
-    let mut k = 1;
-    while k < kept.steps {
-        let s = term::step(work, kept, k);
-        let h = s.hop;
-        total += hop_length(h);
-        k += 1;
+    for k in 1..y.kept.steps {
+        total += hop_length(y.step(k).hop);
     }
     total
 }
 
 // The registers of a pair: those of seq1's alternative, and one for each further delay.
+#[tactic(auto, unfolding(crate::specs::Pairs::kept_pair_registers))]
 pub fn registers(work: &[u32], pair: Pair) -> u64
     requires { Whole work.now pair.one × (pair.delays ≤ longest_window) }
     ensures value { result ≡ kept_pair_registers work.now pair }
     ensures small { result ≤ most_pair_registers }
 {
-    alternative::registers(work, pair.one) + pair.delays
+    let one = Alternative {
+        work,
+        kept: pair.one,
+    };
+    alternative::registers(one) + pair.delays
 }
 
 // Puts the assignments of d delays of a kept alternative's text, from register r on, which is the one behind its own.
-fn slide_stores(work: &[u32], kept: term::Kept, r: u32, d: u32, out: &mut [u32], at: usize) -> usize
-    requires { Slid work.now kept r d × (at + length (slide_store_words work.now kept r d) ≤ length out.old) }
-    ensures { Wrote out.old out.new at result (slide_store_words work.now kept r d) }
+fn slide_stores(y: Alternative<'_>, r: u32, d: u32, out: &mut [u32], at: usize) -> usize
+    requires { Slid y.work.now y.kept r d × (at + length (slide_store_words y.work.now y.kept r d) ≤ length out.old) }
+    ensures { Wrote out.old out.new at result (slide_store_words y.entry.work.now y.entry.kept r d) }
 {
     if d == 0 {
         return at;
     }
-    let a = alternative::text(work, kept, r, out, at);
+    let a = alternative::text(y, r, out, at);
     let b = words::put(out, a, word::SEQ + r);
-    pipeline::delays(work, term::without_guard(kept), r + 1, d - 1, out, b)
+    pipeline::delays(&[], r + 1, d - 1, out, b)
 }
 
 // Puts the assignments of a pair: those of seq1's alternative, then of its further delays.
@@ -87,12 +88,15 @@ pub fn stores(work: &[u32], pair: Pair, out: &mut [u32], at: usize) -> Mark
     requires { PlacedPair work.now pair × (at + length (kept_pair_stores work.now pair) ≤ length out.old) }
     ensures { Marked out.old out.new at result (kept_pair_stores work.now pair) (pair.one.register + kept_pair_registers work.now pair) }
 {
+    let one = Alternative {
+        work,
+        kept: pair.one,
+    };
     let d = pair.delays as u32;
-    let r = alternative::next_register(work, pair.one);
-    let a = pipeline::stores(work, pair.one, out, at);
-    let p = slide_stores(work, pair.one, r, d, out, a);
+    let r = alternative::next_register(one);
+    let a = pipeline::stores(one, out, at);
     Mark {
-        place: p,
+        place: slide_stores(one, r, d, out, a),
         register: r + d,
     }
 }
@@ -103,20 +107,18 @@ fn ored(r: u32, d: u32, out: &mut [u32], at: usize) -> usize
     ensures { Wrote out.old out.new at result (delay_texts r d) }
 {
     let mut p = at;
-    let mut k = 0;
-    while k < d {
-        p = words::copied(&[word::REGISTER + (r + k), word::OR], out, p);
-        k += 1;
+    for register in r..r + d {
+        p = words::copied(&[word::REGISTER + register, word::OR], out, p);
     }
     p
 }
 
 // Puts the text of a kept alternative, and each of d registers from r on, the one behind its own, ORed to it.
-fn slid_text(work: &[u32], kept: term::Kept, r: u32, d: u32, out: &mut [u32], at: usize) -> usize
-    requires { Slid work.now kept r d × (at + length (slid_text_words work.now kept r d) ≤ length out.old) }
-    ensures { Wrote out.old out.new at result (slid_text_words work.now kept r d) }
+fn slid_text(y: Alternative<'_>, r: u32, d: u32, out: &mut [u32], at: usize) -> usize
+    requires { Slid y.work.now y.kept r d × (at + length (slid_text_words y.work.now y.kept r d) ≤ length out.old) }
+    ensures { Wrote out.old out.new at result (slid_text_words y.entry.work.now y.entry.kept r d) }
 {
-    let a = alternative::text(work, kept, r, out, at);
+    let a = alternative::text(y, r, out, at);
     ored(r, d, out, a)
 }
 
@@ -137,26 +139,33 @@ pub fn text(work: &[u32], pair: Pair, begin: u32, before: usize, out: &mut [u32]
     requires { Ended work.now pair.two begin × PlacedPair work.now pair × (at + length (kept_pair_text work.now pair before) ≤ length out.old) }
     ensures { Marked out.old out.new at result (kept_pair_text work.now pair before) (pair.one.register + kept_pair_registers work.now pair) }
 {
+    let one = Alternative {
+        work,
+        kept: pair.one,
+    };
+    let two = Alternative {
+        work,
+        kept: pair.two,
+    };
     let d = pair.delays as u32;
-    let r = alternative::next_register(work, pair.one);
-    let a = alternative::text(work, pair.two, begin, out, at);
-    let b = slid_text(work, pair.one, r, d, out, a);
-    let p = closed(before, out, b);
+    let r = alternative::next_register(one);
+    let a = alternative::text(two, begin, out, at);
+    let b = slid_text(one, r, d, out, a);
     Mark {
-        place: p,
+        place: closed(before, out, b),
         register: r + d,
     }
 }
 
 // The words of a pair with d further delays, from those of seq1's alternative and of the text of seq2's.
+#[tactic(auto, using(crate::proofs::Sizes::delayed_stores_fit, crate::proofs::Sizes::delayed_stores_small), unfolding(crate::specs::Sizes::pair_size_of))]
 pub fn size(own: sizes::Size, two: u64, d: u64) -> sizes::Size
     requires { (own.text ≤ longest_text) × (own.stores ≤ most_store_words) × (two ≤ longest_text) × (d ≤ 65536) }
     ensures value { result ≡ pair_size_of own two d }
     ensures small { (result.text ≤ longest_pair_text) × (result.stores ≤ most_words) }
 {
-    let delays = sizes::delays(0, d, own.text);
     sizes::Size {
         text: two + (own.text + (2 * d + 2)),
-        stores: own.stores + delays,
+        stores: own.stores + sizes::delays(0, d, own.text),
     }
 }

@@ -1,29 +1,19 @@
--- Refusal 12's test and the sum of registers, as the code meets them; They assume nothing.
+-- Refusal 12's test and the sum of registers, as the code meets them. They assume nothing.
 use mathlib.Core.Path.{◌≡◌, refl, sym, ap, ◌∙◌}
 use mathlib.Core.Bool.{Bool, true, false, not}
 use mathlib.Core.List.{List, ◌∷◌}
-use Prim.Native.Nat.{ℕ, zero, suc, ◌+◌, ◌*◌, ◌-◌, ◌<◌, ◌≤◌}
+use Prim.Native.Nat.{ℕ, suc, ◌+◌, ◌*◌, ◌-◌, ◌<◌, ◌≤◌}
 use native.Mathlib.Omega.{arith}
 use native.Mathlib.Numerals.{add-one}
-use lib.Dec.{ltb}
-use borrow.Author.Tests.{lt-ltb, not-true, not-false}
+use borrow.Author.Tests.{not-true, not-false}
 use Rattle.words.specs.Choice.{pick, pick_true, pick_false}
 use Rattle.meaning.specs.Refusals.{is_empty, fixed_from_1, empties_fit, steps_fit}
-use Rattle.meaning.specs.declared.SeqHop.{SeqHop}
-use Rattle.meaning.specs.declared.SeqHop.TheVariants.{Fixed}
 use Rattle.meaning.specs.declared.SeqStep.{SeqStep}
 use Rattle.term.specs.declared.Kept.{Kept}
 use Rattle.term.specs.Keeping.{step_of, steps_from, steps_of, Whole}
 use Rattle.current.specs.Text.{registers_at, registers_before, most_registers}
 use Rattle.current.proofs.Walk.{registers_more}
 use Rattle.pipeline.specs.Fit.{hop_fits}
-
-positive : (d : ℕ) → ltb 0 d ≡ fixed_from_1 (Fixed d)
-positive zero = refl
-positive (suc d) = lt-ltb 0 (suc d) (omega arith)
-
-pub fixed_positive : {h : SeqHop} {d : ℕ} → h ≡ Fixed d → ltb 0 d ≡ fixed_from_1 h
-fixed_positive {h} {d} e = positive d ∙ ap fixed_from_1 (sym e)
 
 -- One hop after the other.
 choose : (before after fixed rest others : Bool) → (after ≡ false → others ≡ rest)
@@ -41,11 +31,7 @@ fit_step before s ss =
 
 -- The loop of `empties_fit`: the hops before the k-th fit, so the answer is that of the others.
 pub record Fitting (W : List ℕ) (a : Kept) (before : Bool) (k : ℕ) : Type 0 where
-  pub turn : k ≤ a.steps
   pub rest : empties_fit false (steps_from W a 1 (a.steps - 1)) ≡ empties_fit before (steps_from W a k (a.steps - k))
-
-pub fitting_begins : {W : List ℕ} {a : Kept} → Whole W a → Fitting W a false 1
-fitting_begins whole = record { turn = whole.some; rest = refl }
 
 module _ {W : List ℕ} {a : Kept} {before : Bool} {k : ℕ} (F : Fitting W a before k) where
   module _ (h : k < a.steps) {s : SeqStep} {after b : Bool} (w : s ≡ step_of W a k) (e : after ≡ is_empty s.term) (f : b ≡ hop_fits before after s.hop) where
@@ -56,7 +42,7 @@ module _ {W : List ℕ} {a : Kept} {before : Bool} {k : ℕ} (F : Fitting W a be
         rw (n, add-one k, ← w) (fit_step before s (steps_from W a (suc k) (a.steps - (suc k))) ∙ rw (← e, ← f) refl)
 
     pub fitting_on : not b ≡ false → Fitting W a after (k + 1)
-    fitting_on q = record { turn = omega (arith, h); rest = F.rest ∙ fit_here ∙ pick_true _ _ (not-false b q) }
+    fitting_on q = record { rest = F.rest ∙ fit_here ∙ pick_true _ _ (not-false b q) }
 
     pub fitting_fails : not b ≡ true → false ≡ empties_fit false (steps_from W a 1 (a.steps - 1))
     fitting_fails q = sym (F.rest ∙ fit_here ∙ pick_false _ _ (not-true b q))
@@ -71,28 +57,30 @@ module _ {W : List ℕ} {a : Kept} {s : SeqStep} {b : Bool} (whole : Whole W a) 
   unfolding steps_from
   fit_first = let n : a.steps ≡ suc (a.steps - 1) = omega (arith, whole.some) in ap (λ (m : ℕ). steps_fit (steps_from W a 0 m)) n ∙ rw (e, w) refl
 
-  pub lead_misplaced : b ≡ true → false ≡ steps_fit (steps_of W a)
-  lead_misplaced q = sym (fit_first ∙ pick_true _ _ q)
+  pub lead_misplaced : b ≡ true → not b ≡ steps_fit (steps_of W a)
+  lead_misplaced q = rw q (sym (fit_first ∙ pick_true _ _ q))
 
   pub lead_fits : {r : Bool} → b ≡ false → r ≡ empties_fit false (steps_from W a 1 (a.steps - 1)) → r ≡ steps_fit (steps_of W a)
   lead_fits q f = f ∙ sym (fit_first ∙ pick_false _ _ q)
 
 -- The loop of `registers`: those of k steps are added.
-pub record Summing (W : List ℕ) (a : Kept) (count sum k : ℕ) : Type 0 where
-  pub turn : k ≤ count
+pub record Summing (W : List ℕ) (a : Kept) (sum k : ℕ) : Type 0 where
   pub holds : sum ≡ registers_before W a k
   pub small : sum ≤ k * 8589934591
 
-pub summing_begins : (W : List ℕ) (a : Kept) (count : ℕ) → Summing W a count 0 0
+pub summing_begins : (W : List ℕ) (a : Kept) → Summing W a 0 0
 unfolding registers_before
-summing_begins W a count = record { turn = omega arith; holds = refl; small = omega arith }
+summing_begins W a = record { holds = refl; small = omega arith }
 
-module _ {W : List ℕ} {a : Kept} {count sum k : ℕ} (S : Summing W a count sum k) where
-  pub summing_on : {q : ℕ} → k < count → q ≡ registers_at W a k → q ≤ 8589934591 → Summing W a count (sum + q) (k + 1)
-  summing_on h e l = record { turn = omega (arith, h); holds = omega (arith, S.holds, registers_more W a k, e); small = omega (arith, S.small, l) }
+module _ {W : List ℕ} {a : Kept} {sum k : ℕ} (S : Summing W a sum k) where
+  pub summing_on : {q : ℕ} → q ≡ registers_at W a k → q ≤ 8589934591 → Summing W a (sum + q) (k + 1)
+  summing_on e l = record { holds = omega (arith, S.holds, registers_more W a k, e); small = omega (arith, S.small, l) }
 
-  pub summing_ends : count ≤ k → sum ≡ registers_before W a count
-  summing_ends h = let e : k ≡ count = omega (arith, h, S.turn) in S.holds ∙ ap (registers_before W a) e
+  module _ {count : ℕ} (l : k ≤ count) where
+    pub summing_ends : count ≤ k → sum ≡ registers_before W a count
+    summing_ends h = let e : k ≡ count = omega arith in S.holds ∙ ap (registers_before W a) e
 
-  pub summing_small : Whole W a → count ≤ a.steps → sum ≤ most_registers
-  summing_small whole h = omega (arith, S.small, S.turn, h, whole.many)
+    pub summing_small : Whole W a → count ≤ a.steps → sum ≤ most_registers
+    summing_small whole h = omega (arith, S.small, whole.many)
+
+pub ruleset summing = (summing_begins, summing_on, summing_ends, summing_small)

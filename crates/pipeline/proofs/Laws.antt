@@ -4,30 +4,28 @@ use mathlib.Core.Path.{◌≡◌, refl, sym, ap, ◌∙◌}
 use mathlib.Core.List.{List, [], ◌∷◌, ◌++◌, append_assoc}
 use Prim.Native.Nat.{ℕ, suc, ◌+◌, ◌-◌, ◌<◌, ◌≤◌}
 use native.Mathlib.Omega.{arith}
-use native.Mathlib.Nat.{add-zero, sub-zero}
 use native.Mathlib.Numerals.{add-one}
 use lib.ListN.{length, length-append}
 use borrow.Author.Tests.{lt-ltb, le-ltb}
 use Rattle.words.specs.Choice.{pick_true, pick_false}
 use Rattle.words.specs.Written.{Wrote}
-use Rattle.words.proofs.Laws.{Going, begin, go, done, still_long, same_words, same_room, first_room, second_room, two_parts, both_done, third_room, three_parts, three_done, nothing_written}
+use Rattle.words.proofs.Laws.{Going, begin, go, done, still_long, same_words, same_room, first_room, second_room, both_done, third_room, three_parts, three_done, nothing_written}
 use Rattle.term.specs.declared.Kept.{Kept}
-use Rattle.term.specs.Keeping.{step_of, without_guard, Whole}
-use Rattle.term.proofs.Keeping.{no_guard, whole_without_guard}
+use Rattle.term.specs.Keeping.{step_of}
 use Rattle.meaning.specs.Expression.{seq, arm}
 use Rattle.meaning.specs.declared.SeqTerm.{SeqTerm}
 use Rattle.meaning.specs.declared.SeqTerm.TheVariants.{Bool as BoolTerm, Goto, Nonconsec, ConsecAtLeast, Empty}
 use Rattle.meaning.specs.declared.SeqHop.{SeqHop}
-use Rattle.meaning.specs.declared.SeqHop.TheVariants.{AtLeast}
+use Rattle.meaning.specs.declared.SeqHop.TheVariants.{Fixed, AtLeast}
 use Rattle.meaning.specs.declared.SeqStep.{SeqStep}
 use Rattle.step_text.specs.Text.{register_word, or_word, store_word, reach, hop_registers, term_registers, step_registers, TermFits, StepFits}
 use Rattle.step_text.proofs.Laws.{at_least_some, at_least_itself}
 use Rattle.step_text.proofs.StepParts.{term_small}
 use Rattle.current.specs.Text.{registers_at, registers_before, activation_at}
-use Rattle.current.specs.Walk.{text_before, Ready, Placed}
+use Rattle.current.specs.Walk.{Ready, Placed}
 use Rattle.current.proofs.Walk.{registers_more, registers_less, registers_grow, piece_later, piece_first}
 use Rattle.fsm.specs.Stores.{term_store_words}
-use Rattle.pipeline.specs.Stores.{delay_store_words, more_delays, late_latch_words, delays_at, hop_store_words, hop_stores_at, step_store_words, store_words_after, later_store_words, alternative_store_words}
+use Rattle.pipeline.specs.Stores.{delay_store_words, more_delays, late_latch_words, hop_store_words, hop_stores_at, step_store_words, store_words_after, later_store_words, alternative_store_words}
 
 -- A word in front of a text and others behind it.
 pub after_one : {o o₁ o₂ o₃ E ws : List ℕ} {at p₁ p₂ p w : ℕ} → Wrote o o₁ at p₁ (w ∷ []) → Wrote o₁ o₂ p₁ p₂ E → Wrote o₂ o₃ p₂ p ws → Wrote o o₃ at p (w ∷ (E ++ ws))
@@ -38,12 +36,8 @@ abbrev delay_words : List ℕ → ℕ → List ℕ
 delay_words G r = register_word (r - 1) ∷ (G ++ (store_word seq r ∷ []))
 
 pub record Delaying (G o : List ℕ) (at r d : ℕ) (o' : List ℕ) (p i : ℕ) : Type 0 where
-  pub turn : i ≤ d
   pub long : length o' ≡ length o
   pub going : Going o at (more_delays G r d) o' p (more_delays G (r + i) (d - i))
-
-pub delaying_begins : (G o : List ℕ) (at r d : ℕ) → Delaying G o at r d o at 0
-delaying_begins G o at r d = record { turn = omega arith; long = refl; going = rw (add-zero r, sub-zero d) (begin o at _) }
 
 module _ {G o : List ℕ} {at r d : ℕ} {o' : List ℕ} {p i : ℕ} (D : Delaying G o at r d o' p i) where
   module _ (h : i < d) where
@@ -64,7 +58,7 @@ module _ {G o : List ℕ} {at r d : ℕ} {o' : List ℕ} {p i : ℕ} (D : Delayi
         omega (arith, first_room p (delay_words G (r + i)) (more_delays G (r + (i + 1)) (d - (i + 1))) refl all, length-append G (store_word seq (r + i) ∷ []))
 
     pub delaying_on : {o₁ : List ℕ} {p₁ : ℕ} → Wrote o' o₁ p p₁ (register_word (r + i - 1) ∷ (G ++ (store_word seq (r + i) ∷ []))) → Delaying G o at r d o₁ p₁ (i + 1)
-    delaying_on {o₁} {p₁} w = record { turn = omega (arith, h); long = next.long; going = next }
+    delaying_on {o₁} {p₁} w = record { long = next.long; going = next }
       where
         next : Going o at (more_delays G r d) o₁ p₁ (more_delays G (r + (i + 1)) (d - (i + 1)))
         next = go (delay_words G (r + i)) _ delay_onward w
@@ -100,71 +94,65 @@ module _ (G : List ℕ) (r : ℕ) (E : List ℕ) {d : ℕ} (z : d ≡ 0 → ⊥)
       → Wrote o₂ o₃ b p (more_delays G (r + 1) (d - 1)) → Wrote o o₃ at p (delay_store_words G r d E)
   fixed_done u v w = three_done fixed_parts u v w
 
--- `late_latch`: its delays are under the guard of g, which has none.
-module _ (W : List ℕ) (a : Kept) {g : Kept} (e : g ≡ without_guard a) where
-  pub no_guard_whole : Whole W a → Whole W g
-  no_guard_whole whole = rw e (whole_without_guard whole)
+-- `late_latch`: its delays have no guard.
+module _ (r d : ℕ) (E : List ℕ) where
+  pub late_delays_room : (at : ℕ) {n : ℕ} → at + (4 + length (delay_store_words [] r d E)) ≤ n → at + length (delay_store_words [] r d E) ≤ n
+  late_delays_room at h = omega arith
 
-  module _ (k r d : ℕ) where
-    unguarded_delays : delays_at W a g k r d ≡ delay_store_words [] r d (text_before W a k r)
-    unguarded_delays = ap (λ (G : List ℕ). delay_store_words G r d (text_before W a k r)) (rw e (no_guard W a))
+  pub late_latch_room : {at p₁ : ℕ} {o o₁ : List ℕ} → Wrote o o₁ at p₁ (delay_store_words [] r d E) → at + (4 + length (delay_store_words [] r d E)) ≤ length o → p₁ + 4 ≤ length o₁
+  late_latch_room u h = omega (arith, u.ends, still_long u)
 
-    pub late_delays_room : (at : ℕ) {n : ℕ} → at + (4 + length (delay_store_words [] r d (text_before W a k r))) ≤ n → at + length (delays_at W a g k r d) ≤ n
-    late_delays_room at h = omega (arith, h, ap length unguarded_delays)
+-- `hop_over`: what each variant of the hop x puts.
+module _ (r : ℕ) {x : SeqHop} where
+  module _ {d : ℕ} (e : x ≡ Fixed d) where
+    pub hop_small : r + hop_registers x ≤ 65536 → r + d ≤ 65536
+    unfolding hop_registers
+    hop_small h = rw e at h
 
-    module _ {at p₁ : ℕ} {o o₁ : List ℕ} (u : Wrote o o₁ at p₁ (delays_at W a g k r d)) where
-      pub late_latch_room : at + (4 + length (delay_store_words [] r d (text_before W a k r))) ≤ length o → p₁ + 4 ≤ length o₁
-      late_latch_room h = omega (arith, h, u.ends, still_long u, ap length unguarded_delays)
+    module _ (G E : List ℕ) where
+      pub hop_room : (at : ℕ) {n : ℕ} → at + length (hop_store_words G r x E) ≤ n → at + length (delay_store_words G r d E) ≤ n
+      unfolding hop_store_words
+      hop_room at h = rw e at h
 
-      pub late_latch_done : {p : ℕ} {o₂ ws : List ℕ} → Wrote o₁ o₂ p₁ p ws → Wrote o o₂ at p (delay_store_words [] r d (text_before W a k r) ++ ws)
-      late_latch_done v = two_parts (same_words unguarded_delays u) v
+      pub hop_done : {at p : ℕ} {o o₁ : List ℕ} → Wrote o o₁ at p (delay_store_words G r d E) → Wrote o o₁ at p (hop_store_words G r x E)
+      unfolding hop_store_words
+      hop_done w = rw e w
 
--- `at_least`: a latch, or one after delays.
-module _ (G : List ℕ) (r m : ℕ) (E : List ℕ) where
-  latch_words : m < 2 → hop_store_words G r (AtLeast m) E ≡ register_word r ∷ (E ++ (or_word ∷ store_word arm r ∷ []))
-  unfolding hop_store_words
-  latch_words h = pick_true _ _ (lt-ltb m 2 h)
+  module _ {m : ℕ} (e : x ≡ AtLeast m) where
+    pub latch_small : r + hop_registers x ≤ 65536 → r < 65536
+    unfolding hop_registers
+    latch_small h = omega (arith, rw e at h, at_least_some m)
 
-  late_stores_are : 2 ≤ m → hop_store_words G r (AtLeast m) E ≡ delay_store_words [] r (m - 1) E ++ late_latch_words r m
-  unfolding hop_store_words
-  late_stores_are h = pick_false _ _ (le-ltb m 2 h)
+    pub late_small : r + hop_registers x ≤ 65536 → r + m ≤ 65536
+    unfolding hop_registers
+    late_small h = omega (arith, rw e at h, at_least_itself m)
 
-  pub latch_room : (at : ℕ) {n : ℕ} → m < 2 → at + length (hop_store_words G r (AtLeast m) E) ≤ n → at + (3 + length E) ≤ n
-  latch_room at {n} h q =
-      let q' : at + length (register_word r ∷ (E ++ (or_word ∷ store_word arm r ∷ []))) ≤ n = same_room at (latch_words h) q in
-      omega (arith, q', length-append E (or_word ∷ store_word arm r ∷ []))
+    module _ (G E : List ℕ) where
+      latch_words : m < 2 → hop_store_words G r x E ≡ register_word r ∷ (E ++ (or_word ∷ store_word arm r ∷ []))
+      unfolding hop_store_words
+      latch_words h = rw e (pick_true _ _ (lt-ltb m 2 h))
 
-  pub latch_done : {at p : ℕ} {o o₁ : List ℕ} → m < 2 → Wrote o o₁ at p (register_word r ∷ (E ++ (or_word ∷ store_word arm r ∷ []))) → Wrote o o₁ at p (hop_store_words G r (AtLeast m) E)
-  latch_done h w = same_words (sym (latch_words h)) w
+      pub latch_room : (at : ℕ) {n : ℕ} → m < 2 → at + length (hop_store_words G r x E) ≤ n → at + (3 + length E) ≤ n
+      latch_room at {n} h q =
+          let q' : at + length (register_word r ∷ (E ++ (or_word ∷ store_word arm r ∷ []))) ≤ n = same_room at (latch_words h) q in
+          omega (arith, q', length-append E (or_word ∷ store_word arm r ∷ []))
 
-  pub late_room : (at : ℕ) {n : ℕ} → 2 ≤ m → at + length (hop_store_words G r (AtLeast m) E) ≤ n → at + (4 + length (delay_store_words [] r (m - 1) E)) ≤ n
-  late_room at {n} h q =
-      let q' : at + length (delay_store_words [] r (m - 1) E ++ late_latch_words r m) ≤ n = same_room at (late_stores_are h) q in
-      omega (arith, q', length-append (delay_store_words [] r (m - 1) E) (late_latch_words r m))
+      pub latch_done : {at p : ℕ} {o o₁ : List ℕ} → m < 2 → Wrote o o₁ at p (register_word r ∷ (E ++ (or_word ∷ store_word arm r ∷ []))) → Wrote o o₁ at p (hop_store_words G r x E)
+      latch_done h w = same_words (sym (latch_words h)) w
 
-  pub late_done : {at p : ℕ} {o o₁ : List ℕ} → 2 ≤ m
-      → Wrote o o₁ at p (delay_store_words [] r (m - 1) E ++ late_latch_words r m) → Wrote o o₁ at p (hop_store_words G r (AtLeast m) E)
-  late_done h w = same_words (sym (late_stores_are h)) w
+      -- The number k of the arm before, which did not take the hop, is that of this one.
+      module _ {k : ℕ} (f : x ≡ AtLeast k) (l : 2 ≤ k) where
+        late_stores_are : hop_store_words G r x E ≡ delay_store_words [] r (m - 1) E ++ late_latch_words r m
+        unfolding hop_store_words
+        late_stores_are = let same : k ≡ m = cc in rw e (pick_false _ _ (le-ltb m 2 (omega arith)))
 
-module _ (r m : ℕ) (h : r + hop_registers (AtLeast m) ≤ 65536) where
-  pub latch_small : r < 65536
-  unfolding hop_registers
-  latch_small = omega (arith, h, at_least_some m)
+        pub late_room : (at : ℕ) {n : ℕ} → at + length (hop_store_words G r x E) ≤ n → at + (4 + length (delay_store_words [] r (m - 1) E)) ≤ n
+        late_room at {n} q =
+            let q' : at + length (delay_store_words [] r (m - 1) E ++ late_latch_words r m) ≤ n = same_room at late_stores_are q in
+            omega (arith, q', length-append (delay_store_words [] r (m - 1) E) (late_latch_words r m))
 
-  pub late_small : r + m ≤ 65536
-  unfolding hop_registers
-  late_small = omega (arith, h, at_least_itself m)
-
--- `hop_over`: a match on the hop, y being the variant.
-module _ (r : ℕ) {x y : SeqHop} (e : x ≡ y) where
-  pub hop_in : (G E : List ℕ) {o o' : List ℕ} {at p : ℕ} → Wrote o o' at p (hop_store_words G r y E) → Wrote o o' at p (hop_store_words G r x E)
-  hop_in G E w = rw e w
-
-  pub hop_room : (G E : List ℕ) (at : ℕ) {ws : List ℕ} {n : ℕ} → hop_store_words G r y E ≡ ws → at + length (hop_store_words G r x E) ≤ n → at + length ws ≤ n
-  hop_room G E at f h = same_room at (ap (λ (z : SeqHop). hop_store_words G r z E) e ∙ f) h
-
-  pub hop_variant : {m : ℕ} → hop_registers y ≡ m → r + hop_registers x ≤ 65536 → r + m ≤ 65536
-  hop_variant f h = rw (← f, ← e) h
+        pub late_done : {at p : ℕ} {o o₁ : List ℕ} → Wrote o o₁ at p (delay_store_words [] r (m - 1) E ++ late_latch_words r m) → Wrote o o₁ at p (hop_store_words G r x E)
+        late_done w = same_words (sym late_stores_are) w
 
 -- A term that has no register stores nothing.
 no_machine : (x : SeqTerm) (q : ℕ) (activation : List ℕ) → term_registers x ≡ 0 → term_store_words q x activation ≡ []
@@ -207,8 +195,6 @@ module _ {W : List ℕ} {a : Kept} {k r : ℕ} {s : SeqStep} (R : Ready W a k r)
 
 -- The loop of `laters`: the stores of the steps before the k-th are written, and r is its first register.
 pub record Storing (W : List ℕ) (a : Kept) (o : List ℕ) (at : ℕ) (o' : List ℕ) (p k r : ℕ) : Type 0 where
-  pub later : 0 < k
-  pub turn : k ≤ a.steps
   pub register : r ≡ a.register + registers_before W a k
   pub long : length o' ≡ length o
   pub going : Going o at (later_store_words W a) o' p (store_words_after W a (k - 1) (a.register + registers_before W a (k - 1)) (a.steps - k))
@@ -227,8 +213,6 @@ module _ {W : List ℕ} {a : Kept} (P : Placed W a) where
 
   pub storing_begins : (o : List ℕ) (at : ℕ) {r : ℕ} → r ≡ a.register + registers_at W a 0 → Storing W a o at o at 1 r
   storing_begins o at e = record {
-    later = omega arith;
-    turn = P.whole.some;
     register = omega (arith, e, registers_more W a 0, none_before);
     long = refl;
     going = let f : a.register + registers_before W a (1 - 1) ≡ a.register = omega (arith, none_before) in rw f (begin o at (later_store_words W a));
@@ -238,15 +222,12 @@ module _ {W : List ℕ} {a : Kept} (P : Placed W a) where
   ready_at k h e = record { whole = P.whole; among = h; low = omega (arith, e); high = omega (arith, e, registers_high k h) }
 
   module _ {o : List ℕ} {at : ℕ} {o' : List ℕ} {p k r : ℕ} (D : Storing W a o at o' p k r) where
-    module _ (h : k < a.steps) where
+    module _ (z : 0 < k) (h : k < a.steps) where
       pub storing_high : r + registers_at W a k ≤ 65536
       storing_high = omega (arith, D.register, registers_high k h)
 
       pub storing_ready : Ready W a k r
       storing_ready = ready_at k h D.register
-
-      pub storing_later : 0 < k
-      storing_later = D.later
 
       abbrev steps_behind : List ℕ
       steps_behind = store_words_after W a (k + 1 - 1) (a.register + registers_before W a (k + 1 - 1)) (a.steps - (k + 1))
@@ -255,8 +236,8 @@ module _ {W : List ℕ} {a : Kept} (P : Placed W a) where
       unfolding store_words_after
       steps_onward =
           let e : a.steps - k ≡ suc (a.steps - (k + 1)) = omega (arith, h) in
-          let f : suc (k - 1) ≡ k = omega (arith, D.later) in
-          let g : a.register + registers_before W a (k - 1) + registers_at W a (k - 1) ≡ r = omega (arith, D.register, registers_less W a k D.later) in
+          let f : suc (k - 1) ≡ k = omega arith in
+          let g : a.register + registers_before W a (k - 1) + registers_at W a (k - 1) ≡ r = omega (arith, D.register, registers_less W a k z) in
           let i : k + 1 - 1 ≡ k = omega arith in
           rw (i, ← D.register) (rw (e, f, g) at D.going)
 
@@ -265,8 +246,6 @@ module _ {W : List ℕ} {a : Kept} (P : Placed W a) where
 
       pub storing_on : {o₁ : List ℕ} {p₁ q : ℕ} → q ≡ r + registers_at W a k → Wrote o' o₁ p p₁ (step_store_words W a k r) → Storing W a o at o₁ p₁ (k + 1) q
       storing_on {o₁} {p₁} {q} e w = record {
-        later = omega arith;
-        turn = omega (arith, h);
         register = omega (arith, e, D.register, registers_more W a k);
         long = next.long;
         going = next;

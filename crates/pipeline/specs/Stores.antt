@@ -33,10 +33,6 @@ hop_store_words G r (AtLeast m) before =
     (register_word r ∷ (before ++ (or_word ∷ store_word arm r ∷ [])))
     (delay_store_words [] r (m - 1) before ++ late_latch_words r m)
 
--- Delays of the text before the k-th step, a later one whose first register is r, under the guard of `guarding`.
-abbrev pub delays_at : List ℕ → Kept → Kept → ℕ → ℕ → ℕ → List ℕ
-delays_at W a guarding k r d = delay_store_words (guard_of W guarding) r d (text_before W a k r)
-
 -- A hop of the k-th step, a later one whose first register is r.
 abbrev pub hop_stores_at : List ℕ → Kept → ℕ → ℕ → SeqHop → List ℕ
 hop_stores_at W a k r h = hop_store_words (guard_of W a) r h (text_before W a k r)

@@ -9,14 +9,15 @@ ghost use Rattle.words.specs.Written.{Wrote};
 ghost use Rattle.meaning.specs.Expression.{seq, arm};
 ghost use Rattle.meaning.specs.Refusals.{fixed_from_1, empties_fit, steps_fit};
 ghost use Rattle.meaning.specs.declared.SeqHop.TheVariants.{AtLeast};
-ghost use Rattle.term.specs.Keeping.{steps_from, steps_of, guard_of, Whole};
+ghost use Rattle.term.specs.Keeping.{steps_from, steps_of, Whole};
 ghost use Rattle.step_text.specs.Text.{register_word, or_word, store_word, hop_registers};
 ghost use Rattle.current.specs.Text.{registers_before, most_registers};
 ghost use Rattle.current.specs.Walk.{text_before, Ready, Placed};
 ghost use Rattle.pipeline.specs.Fit.{hop_fits};
-ghost use Rattle.pipeline.specs.Stores.{delay_store_words, more_delays, late_latch_words, delays_at, hop_stores_at, step_store_words, later_store_words, alternative_store_words};
+ghost use Rattle.pipeline.specs.Stores.{delay_store_words, more_delays, late_latch_words, hop_stores_at, step_store_words, later_store_words, alternative_store_words};
 
 use meaning::word;
+use term::Alternative;
 
 // `seq_delay_reg`: register r takes the one before, with the guard.
 fn delay(guard: &[u32], r: u32, out: &mut [u32], at: usize) -> usize
@@ -29,68 +30,54 @@ fn delay(guard: &[u32], r: u32, out: &mut [u32], at: usize) -> usize
 }
 
 // d delays, from register r on: each takes the register before it, with the guard.
-pub fn delays(work: &[u32], kept: term::Kept, r: u32, d: u32, out: &mut [u32], at: usize) -> usize
-    requires { Whole work.now kept × (0 < r) × (r + d ≤ 65536) × (at + length (more_delays (guard_of work.now kept) r d) ≤ length out.old) }
-    ensures { Wrote out.old out.new at result (more_delays (guard_of work.now kept) r d) }
+pub fn delays(guard: &[u32], r: u32, d: u32, out: &mut [u32], at: usize) -> usize
+    requires { (0 < r) × (r + d ≤ 65536) × (at + length (more_delays guard.now r d) ≤ length out.old) }
+    ensures { Wrote out.old out.new at result (more_delays guard.now r d) }
 {
-    let from = kept.guard;
-    let to = kept.end;
-    let guard = &work[from..to];
     let mut p = at;
-    let mut i = 0;
-    while i < d {
+    for i in 0..d {
         p = delay(guard, r + i, out, p);
-        i += 1;
     }
     p
 }
 
-// d delays of the text before the k-th step, from its first register r on. Their guard is that of `guarding`: an "at least" hop has none.
+// d delays of the text before the k-th step, from its first register r on, with the guard.
 fn fixed(
-    work: &[u32],
-    kept: term::Kept,
-    guarding: term::Kept,
+    y: Alternative<'_>,
+    guard: &[u32],
     k: usize,
     r: u32,
     d: u32,
     out: &mut [u32],
     at: usize,
 ) -> usize
-    requires { Ready work.now kept k r × Whole work.now guarding × (0 < k) × (r + d ≤ 65536) × (at + length (delays_at work.now kept guarding k r d) ≤ length out.old) }
-    ensures { Wrote out.old out.new at result (delays_at work.now kept guarding k r d) }
+    requires { Ready y.work.now y.kept k r × (0 < k) × (r + d ≤ 65536) × (at + length (delay_store_words guard.now r d (text_before y.work.now y.kept k r)) ≤ length out.old) }
+    ensures { Wrote out.old out.new at result (delay_store_words guard.now r d (text_before y.entry.work.now y.entry.kept k r)) }
 {
     if d == 0 {
         return at;
     }
-    let p = current::before(work, kept, k, r, out, at);
+    let p = current::before(y, k, r, out, at);
     let next = words::put(out, p, word::SEQ + r);
-    delays(work, guarding, r + 1, d - 1, out, next)
+    delays(guard, r + 1, d - 1, out, next)
 }
 
 // The latch of an "at least 0" or "at least 1".
-fn latch(work: &[u32], kept: term::Kept, k: usize, r: u32, out: &mut [u32], at: usize) -> usize
-    requires { Ready work.now kept k r × (0 < k) × (r < 65536) × (at + (3 + length (text_before work.now kept k r)) ≤ length out.old) }
-    ensures { Wrote out.old out.new at result (register_word r ∷ (text_before work.now kept k r ++ (or_word ∷ store_word arm r ∷ []))) }
+fn latch(y: Alternative<'_>, k: usize, r: u32, out: &mut [u32], at: usize) -> usize
+    requires { Ready y.work.now y.kept k r × (0 < k) × (r < 65536) × (at + (3 + length (text_before y.work.now y.kept k r)) ≤ length out.old) }
+    ensures { Wrote out.old out.new at result (register_word r ∷ (text_before y.entry.work.now y.entry.kept k r ++ (or_word ∷ store_word arm r ∷ []))) }
 {
     let p = words::put(out, at, word::REGISTER + r);
-    let next = current::before(work, kept, k, r, out, p);
+    let next = current::before(y, k, r, out, p);
     words::copied(&[word::OR, word::ARM + r], out, next)
 }
 
 // The latch after m - 1 delays.
-fn late_latch(
-    work: &[u32],
-    kept: term::Kept,
-    k: usize,
-    r: u32,
-    m: u32,
-    out: &mut [u32],
-    at: usize,
-) -> usize
-    requires { Ready work.now kept k r × (0 < k) × (2 ≤ m) × (r + m ≤ 65536) × (at + (4 + length (delay_store_words [] r (m - 1) (text_before work.now kept k r))) ≤ length out.old) }
-    ensures { Wrote out.old out.new at result (delay_store_words [] r (m - 1) (text_before work.now kept k r) ++ late_latch_words r m) }
+fn late_latch(y: Alternative<'_>, k: usize, r: u32, m: u32, out: &mut [u32], at: usize) -> usize
+    requires { Ready y.work.now y.kept k r × (0 < k) × (2 ≤ m) × (r + m ≤ 65536) × (at + (4 + length (delay_store_words [] r (m - 1) (text_before y.work.now y.kept k r))) ≤ length out.old) }
+    ensures { Wrote out.old out.new at result (delay_store_words [] r (m - 1) (text_before y.entry.work.now y.entry.kept k r) ++ late_latch_words r m) }
 {
-    let p = fixed(work, kept, term::without_guard(kept), k, r, m - 1, out, at);
+    let p = fixed(y, &[], k, r, m - 1, out, at);
     words::copied(
         &[
             word::REGISTER + (r + m - 1),
@@ -103,157 +90,115 @@ fn late_latch(
     )
 }
 
-// The stores of an "at least m" hop.
-fn at_least(
-    work: &[u32],
-    kept: term::Kept,
-    k: usize,
-    r: u32,
-    m: u32,
-    out: &mut [u32],
-    at: usize,
-) -> usize
-    requires { Ready work.now kept k r × (0 < k) × (r + hop_registers (AtLeast m) ≤ 65536) × (at + length (hop_stores_at work.now kept k r (AtLeast m)) ≤ length out.old) }
-    ensures { Wrote out.old out.new at result (hop_stores_at work.now kept k r (AtLeast m)) }
-{
-    if m < 2 {
-        return latch(work, kept, k, r, out, at);
-    }
-    late_latch(work, kept, k, r, m, out, at)
-}
-
 // The stores of the k-th step's hop.
 fn hop_over(
-    work: &[u32],
-    kept: term::Kept,
+    y: Alternative<'_>,
     k: usize,
     r: u32,
     h: meaning::SeqHop,
     out: &mut [u32],
     at: usize,
 ) -> usize
-    requires { Ready work.now kept k r × (0 < k) × (r + hop_registers h ≤ 65536) × (at + length (hop_stores_at work.now kept k r h) ≤ length out.old) }
-    ensures { Wrote out.old out.new at result (hop_stores_at work.now kept k r h) }
+    requires { Ready y.work.now y.kept k r × (0 < k) × (r + hop_registers h ≤ 65536) × (at + length (hop_stores_at y.work.now y.kept k r h) ≤ length out.old) }
+    ensures { Wrote out.old out.new at result (hop_stores_at y.entry.work.now y.entry.kept k r h) }
 {
     match h {
-        meaning::SeqHop::Fixed(d) => fixed(work, kept, kept, k, r, d, out, at),
-        meaning::SeqHop::AtLeast(m) => at_least(work, kept, k, r, m, out, at),
+        meaning::SeqHop::Fixed(d) => fixed(y, y.guard(), k, r, d, out, at),
+        meaning::SeqHop::AtLeast(m) if m < 2 => latch(y, k, r, out, at),
+        meaning::SeqHop::AtLeast(m) => late_latch(y, k, r, m, out, at),
     }
 }
 
 // The stores of the k-th step, a later one.
-fn later(work: &[u32], kept: term::Kept, k: usize, r: u32, out: &mut [u32], at: usize) -> usize
-    requires { Ready work.now kept k r × (0 < k) × (at + length (step_store_words work.now kept k r) ≤ length out.old) }
-    ensures { Wrote out.old out.new at result (step_store_words work.now kept k r) }
+fn later(y: Alternative<'_>, k: usize, r: u32, out: &mut [u32], at: usize) -> usize
+    requires { Ready y.work.now y.kept k r × (0 < k) × (at + length (step_store_words y.work.now y.kept k r) ≤ length out.old) }
+    ensures { Wrote out.old out.new at result (step_store_words y.entry.work.now y.entry.kept k r) }
 {
-    let s = term::step(work, kept, k);
-    let x = s.term;
-    let h = step_text::reach(s);
+    let s = y.step(k);
     let q = step_text::term_register(s, r);
-    let p = hop_over(work, kept, k, r, h, out, at);
-    if step_text::term_registers(x) == 0 {
+    let p = hop_over(y, k, r, step_text::reach(s), out, at);
+    if step_text::term_registers(s.term) == 0 {
         return p;
     }
-    fsm::apply_term(work, kept, k, r, x, q, out, p)
+    fsm::apply_term(y, k, r, s.term, q, out, p)
 }
 
 // The stores of the steps after the first.
-fn laters(work: &[u32], kept: term::Kept, out: &mut [u32], at: usize) -> usize
-    requires { Placed work.now kept × (at + length (later_store_words work.now kept) ≤ length out.old) }
-    ensures { Wrote out.old out.new at result (later_store_words work.now kept) }
+fn laters(y: Alternative<'_>, out: &mut [u32], at: usize) -> usize
+    requires { Placed y.work.now y.kept × (at + length (later_store_words y.work.now y.kept) ≤ length out.old) }
+    ensures { Wrote out.old out.new at result (later_store_words y.entry.work.now y.entry.kept) }
 {
     let mut p = at;
-    let mut k = 1;
-    let mut r = current::register_after(work, kept, 0, kept.register);
-    while k < kept.steps {
-        let q = current::register_after(work, kept, k, r);
-        p = later(work, kept, k, r, out, p);
-        k += 1;
-        r = q;
+    let mut r = current::register_after(y, 0, y.kept.register);
+    for k in 1..y.kept.steps {
+        p = later(y, k, r, out, p);
+        r = current::register_after(y, k, r);
     }
     p
 }
 
 // All stores of a kept alternative: the first term's, which constant one activates, then the later steps'.
-pub fn stores(work: &[u32], kept: term::Kept, out: &mut [u32], at: usize) -> usize
-    requires { Placed work.now kept × (at + length (alternative_store_words work.now kept) ≤ length out.old) }
-    ensures { Wrote out.old out.new at result (alternative_store_words work.now kept) }
+pub fn stores(y: Alternative<'_>, out: &mut [u32], at: usize) -> usize
+    requires { Placed y.work.now y.kept × (at + length (alternative_store_words y.work.now y.kept) ≤ length out.old) }
+    ensures { Wrote out.old out.new at result (alternative_store_words y.entry.work.now y.entry.kept) }
 {
-    let s = term::step(work, kept, 0);
-    let x = s.term;
-    let r = kept.register;
-    let p = fsm::apply_term(work, kept, 0, r, x, r, out, at);
-    laters(work, kept, out, p)
+    let s = y.step(0);
+    let r = y.kept.register;
+    let p = fsm::apply_term(y, 0, r, s.term, r, out, at);
+    laters(y, out, p)
 }
 
 // Whether a hop is "fixed >= 1".
 fn fixed_from_one(h: meaning::SeqHop) -> bool
     ensures { result ≡ fixed_from_1 h }
 {
-    match h {
-        meaning::SeqHop::Fixed(d) => 0 < d,
-        meaning::SeqHop::AtLeast(_) => false,
-    }
+    matches!(h, meaning::SeqHop::Fixed(d) if 0 < d)
 }
 
 // Whether a hop fits between its terms, of which Empty is told.
+#[tactic(auto, unfolding(crate::specs::Fit::hop_fits, words::specs::Choice::pick))]
 fn hop_fits(before: bool, after: bool, h: meaning::SeqHop) -> bool
     ensures { result ≡ hop_fits before after h }
 {
-    if before {
-        return fixed_from_one(h);
-    }
-    if after {
-        return fixed_from_one(h);
-    }
-    true
+    !(before || after) || fixed_from_one(h)
 }
 
 // Refusal 12 of the steps after the first, which is not Empty.
-fn empties_fit(work: &[u32], kept: term::Kept) -> bool
-    requires { Whole work.now kept }
-    ensures { result ≡ empties_fit false (steps_from work.now kept 1 (kept.steps - 1)) }
+fn empties_fit(y: Alternative<'_>) -> bool
+    ensures { result ≡ empties_fit false (steps_from y.entry.work.now y.entry.kept 1 (y.entry.kept.steps - 1)) }
 {
     let mut before = false;
-    let mut k = 1;
-    while k < kept.steps {
-        let s = term::step(work, kept, k);
-        let x = s.term;
-        let h = s.hop;
-        let after = step_text::is_empty(x);
-        if !hop_fits(before, after, h) {
+    for k in 1..y.kept.steps {
+        let s = y.step(k);
+        let after = step_text::is_empty(s.term);
+        if !hop_fits(before, after, s.hop) {
             return false;
         }
         before = after;
-        k += 1;
     }
     true
 }
 
 // Refusal 12's test of an alternative: no Empty that leads, or that has a hop before or behind it which is not fixed from 1 on.
-pub fn steps_fit(work: &[u32], kept: term::Kept) -> bool
-    requires { Whole work.now kept }
-    ensures { result ≡ steps_fit (steps_of work.now kept) }
+#[tactic(auto, using(crate::proofs::Fit::lead_misplaced, crate::proofs::Fit::lead_fits))]
+pub fn steps_fit(y: Alternative<'_>) -> bool
+    ensures { result ≡ steps_fit (steps_of y.entry.work.now y.entry.kept) }
 {
-    let s = term::step(work, kept, 0);
-    let x = s.term;
-    if step_text::is_empty(x) {
-        return false;
-    }
-    empties_fit(work, kept)
+    let s = y.step(0);
+    !step_text::is_empty(s.term) && empties_fit(y)
 }
 
 // The registers of a kept alternative's first `count` steps. Refusal 13 needs a sum, so that a hop of 4,294,967,294 is one addition.
-pub fn registers(work: &[u32], kept: term::Kept, count: usize) -> u64
-    requires { Whole work.now kept × (count ≤ kept.steps) }
-    ensures value { result ≡ registers_before work.now kept count }
+#[tactic(auto, using(crate::proofs::Fit::summing))]
+pub fn registers(y: Alternative<'_>, count: usize) -> u64
+    requires { count ≤ y.kept.steps }
+    ensures value { result ≡ registers_before y.entry.work.now y.entry.kept count }
     ensures small { result ≤ most_registers }
 {
+    // No chain: neither the value nor the bound of its sum is proved without laws about its items.
     let mut sum = 0;
-    let mut k = 0;
-    while k < count {
-        sum += current::registers_at(work, kept, k);
-        k += 1;
+    for k in 0..count {
+        sum += current::registers_at(y, k);
     }
     sum
 }

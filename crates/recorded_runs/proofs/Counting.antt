@@ -1,9 +1,9 @@
 -- The loop that counts b has set the ends of b[->n], or of b[=n], that it passed.
 use mathlib.Core.Bool.{Bool, true, false, ◌||◌}
-use mathlib.Core.Path.{◌≡◌, refl, sym, subst, ◌∙◌}
+use mathlib.Core.Path.{◌≡◌, refl, sym, subst}
 use mathlib.Core.Logic.{inl}
 use mathlib.Core.List.{List}
-use Prim.Native.Nat.{ℕ, zero, suc, ◌+◌, ◌≤◌, ◌<◌}
+use Prim.Native.Nat.{ℕ, zero, suc, ◌+◌, ◌-◌, ◌≤◌, ◌<◌}
 use native.Mathlib.Nat.{le_refl, le_antisymm}
 use native.Mathlib.Numerals.{add-one}
 use native.Mathlib.Omega.{arith}
@@ -72,58 +72,53 @@ pub record Counting (goes_on : Bool) (rows : List ℕ) (width b n i : ℕ) (befo
 pub counting_begins : {goes_on : Bool} {rows : List ℕ} {width b n i : ℕ} {row : List ℕ} → 0 < n → i < length row
     → Counting goes_on rows width b n i row row 0 i
 counting_begins {goes_on} {rows} {width} {b} {n} {i} {row} h l = record {
-  inside = l;
+  inside = omega arith;
   often = often_none (recorded rows width) b i;
   few = omega arith;
   gained = gaining_begins row _ (i + 1) (λ j x. omega (arith, counted_later rows width b i goes_on n j h x));
 }
 
--- A byte for a Boolean is at most 1.
-pub at_most_one : (x : Bool) → bool_byte x ≤ 1
-at_most_one true = omega arith
-at_most_one false = omega arith
-
--- One turn of the loop, by whether b holds at the tick:
-module _ {goes_on : Bool} {rows : List ℕ} {width b n i : ℕ} {before after : List ℕ} {seen t : ℕ} {here : Bool}
-    (c : Counting goes_on rows width b n i before after seen t) (h : here ≡ recorded rows width t b) where
+-- One turn of the loop, by whether b holds at the tick, which is counted as one more if it does:
+module _ {goes_on : Bool} {rows : List ℕ} {width b n i : ℕ} {before after : List ℕ} {seen t : ℕ} {here : Bool} {more : ℕ}
+    (c : Counting goes_on rows width b n i before after seen t) (h : here ≡ recorded rows width t b) (m : more ≡ bool_byte here) where
   -- With the tick b is seen so often.
-  often_now : NonconsecRuns (recorded rows width) b (seen + bool_byte here) i (t + 1)
-  often_now = often_on (recorded rows width) b here seen i t h c.often
+  often_now : NonconsecRuns (recorded rows width) b (seen + more) i (t + 1)
+  often_now = rw m (often_on (recorded rows width) b here seen i t h c.often)
 
   -- Where b is seen too often no later end is one, and all are set.
-  pub counting_stops : n < seen + bool_byte here → Gains before after (Counted goes_on rows width b n i)
+  pub counting_stops : n < seen + more → Gains before after (Counted goes_on rows width b n i)
   counting_stops l = gaining_ends (λ j u x. elim (dec_le (t + 1) j) [ yes k ↦ absurd (too_often j k x) | no k ↦ omega arith ]) c.gained
     where
       too_often : (j : ℕ) → t + 1 ≤ j → Counted goes_on rows width b n i j → ⊥
       too_often j k x =
-          omega (arith, often_grows (recorded rows width) b (seen + bool_byte here) n i (t + 1) j k often_now (counted_often rows width b i goes_on n j x))
+          omega (arith, often_grows (recorded rows width) b (seen + more) n i (t + 1) j k often_now (counted_often rows width b i goes_on n j x))
 
   -- Where the next end is one it is set.
-  pub counting_adds : {ends : Bool} → t + 1 < length after → seen + bool_byte here ≡ n → ends ≡ (here || goes_on) → ends ≡ true
-      → Counting goes_on rows width b n i before (set after (t + 1) 1) (seen + bool_byte here) (t + 1)
-  counting_adds l e o ends = record {
-    inside = omega (arith, c.gained.long);
+  pub counting_adds : t < length before - 1 → seen + more ≡ n → (here || goes_on) ≡ true
+      → Counting goes_on rows width b n i before (set after (t + 1) 1) (seen + more) (t + 1)
+  counting_adds l e ends = record {
+    inside = omega arith;
     often = often_now;
     few = omega arith;
-    gained = gaining_on c.gained l (inl (is_end rows width b i t seen c.often here goes_on n h e (sym o ∙ ends), refl));
+    gained = gaining_on c.gained (omega (arith, c.gained.long)) (inl (is_end rows width b i t seen c.often here goes_on n h (rw m at e) ends, refl));
   }
 
   -- Where the next end is none it is left.
-  left : t + 1 < length after → seen + bool_byte here ≤ n → (Counted goes_on rows width b n i (t + 1) → ⊥)
-      → Counting goes_on rows width b n i before after (seen + bool_byte here) (t + 1)
-  left l f none = record { inside = omega (arith, c.gained.long); often = often_now; few = f; gained = gaining_past c.gained none }
+  left : t < length before - 1 → seen + more ≤ n → (Counted goes_on rows width b n i (t + 1) → ⊥)
+      → Counting goes_on rows width b n i before after (seen + more) (t + 1)
+  left l f none = record { inside = omega arith; often = often_now; few = f; gained = gaining_past c.gained none }
 
   -- The next end is left where b does not hold and the run may not go on.
-  pub counting_waits : {ends : Bool} → t + 1 < length after → 0 < n → seen + bool_byte here ≡ n → ends ≡ (here || goes_on) → ends ≡ false
-      → Counting goes_on rows width b n i before after (seen + bool_byte here) (t + 1)
-  counting_waits l p e o none = left l (omega arith) (is_no_end rows width b i t here goes_on n h p (sym o ∙ none))
+  pub counting_waits : t < length before - 1 → 0 < n → seen + more ≡ n → (here || goes_on) ≡ false
+      → Counting goes_on rows width b n i before after (seen + more) (t + 1)
+  counting_waits l p e none = left l (omega arith) (is_no_end rows width b i t here goes_on n h p none)
 
   -- The next end is left where b is not seen often enough.
-  pub counting_on : t + 1 < length after → seen + bool_byte here ≤ n → (seen + bool_byte here ≡ n → ⊥)
-      → Counting goes_on rows width b n i before after (seen + bool_byte here) (t + 1)
-  counting_on l f d = left l f (is_not_yet rows width b i t seen c.often here goes_on n h d)
+  pub counting_on : t < length before - 1 → seen + more ≤ n → (seen + more ≡ n → ⊥)
+      → Counting goes_on rows width b n i before after (seen + more) (t + 1)
+  counting_on l f d = left l f (is_not_yet rows width b i t seen c.often here goes_on n h (rw m at d))
 
 -- At the end of the row all are set.
 pub counting_ends : {goes_on : Bool} {rows : List ℕ} {width b n i : ℕ} {before after : List ℕ} {seen t : ℕ}
-    → Counting goes_on rows width b n i before after seen t → length after ≤ t + 1 → Gains before after (Counted goes_on rows width b n i)
-counting_ends c l = gaining_ends (λ j k x. omega (arith, c.gained.long)) c.gained
+    → Counting goes_on rows width b n i before after seen t → length before - 1 ≤ t → Gains before after (Counted goes_on rows width b n i)
+counting_ends c l = gaining_ends (λ j k x. omega arith) c.gained

@@ -22,18 +22,9 @@ pub fn occurs(rows: &[u8], width: usize, atom: u32, i: usize, row: &mut [u8])
     requires { Covers rows.now width (length row.old) × (atom < width) × (i < length row.old) }
     ensures { Gains row.old row.new (Occurs (recorded rows.now width) atom i) }
 {
-    if i + 1 < row.len() {
-        if holds(rows, width, i, atom) {
-            row[i + 1] = 1;
-        }
+    if i + 1 < row.len() && holds(rows, width, i, atom) {
+        row[i + 1] = 1;
     }
-}
-
-// Whether a run that has its count of b may end after a tick: one at which b holds, or any where the run may go on.
-fn may_end(here: bool, goes_on: bool) -> bool
-    ensures { result ≡ (here || goes_on) }
-{
-    here | goes_on
 }
 
 // Adds the ends of b[->count] from i on, or of b[=count] where the run may go on while b is 0: the ticks after the count-th b.
@@ -50,19 +41,16 @@ pub fn counted(
     requires { Covers rows.now width (length row.old) × (atom < width) × (i < length row.old) × (0 < count) }
     ensures { Gains row.old row.new (Counted goes_on rows.now width atom count i) }
 {
+    let count = count as usize;
     let mut seen = 0;
-    let mut tick = i;
-    while tick + 1 < row.len() {
+    for tick in i..row.len() - 1 {
         let here = holds(rows, width, tick, atom);
-        seen += here as usize;
-        if seen > count as usize {
+        seen += usize::from(here);
+        if seen > count {
             return;
         }
-        tick += 1;
-        if seen == count as usize {
-            if may_end(here, goes_on) {
-                row[tick] = 1;
-            }
+        if seen == count && (here || goes_on) {
+            row[tick + 1] = 1;
         }
     }
 }
@@ -72,14 +60,9 @@ fn last_end(rows: &[u8], width: usize, atom: u32, i: usize, side: usize) -> usiz
     requires { Covers rows.now width side × (atom < width) × (i < side) }
     ensures { Last rows.now width atom i side result }
 {
-    let mut end = i;
-    while end + 1 < side {
-        if !holds(rows, width, end, atom) {
-            return end;
-        }
-        end += 1;
-    }
-    end
+    (i..side - 1)
+        .find(|tick| !holds(rows, width, *tick, atom))
+        .unwrap_or(side - 1)
 }
 
 // Adds the ends from i on of a table's runs at every tick of which the condition holds.

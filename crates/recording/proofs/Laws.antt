@@ -15,20 +15,21 @@ use Rattle.words.proofs.Taken.{first_taken, both_hold, second_holds}
 use Rattle.meaning.specs.Tree.{node_at, nodes}
 use Rattle.meaning.specs.Kinds.{columns}
 use Rattle.meaning.specs.declared.Part.TheVariants.{Atom}
-use Rattle.meaning.specs.declared.Table.{Table}
-use Rattle.meaning.specs.declared.Table.TheVariants.{Formed, Refused as Misformed}
+use Rattle.meaning.specs.Answers.{formed}
+use Rattle.meaning.specs.declared.refusal.Refusal.{Refusal}
+use Rattle.meaning.specs.declared.refusal.Refusal.TheVariants.{NotOverAnAtom}
+use Rattle.std.specs.Prelude.{Result, Ok, Err}
 use Rattle.meaning.proofs.Formed.{each_passes, a_formed_table}
 use Rattle.recording.specs.Refusals.{over_an_atom, judged_tree, in_the_row, all_in_the_row, ticks_of, good_rows, room_enough, judged_rows, judged}
 use Rattle.recording.specs.Matchable.{Matchable}
-use Rattle.recording.specs.declared.Matched.TheVariants.{Ticks, Refused}
 use Rattle.recording.proofs.Judging.{a_good_tree, GoodRows, rows_are_good}
 
 -- A refusal is another answer than so many ticks.
-refused_is_not_ticks : {number place ticks : ℕ} → Refused number place ≡ Ticks ticks → ⊥
+refused_is_not_ticks : {refusal : Refusal} {ticks : ℕ} → Err refusal ≡ Ok ticks → ⊥
 refused_is_not_ticks e = let z : ◌≡◌ {A = ℕ} 0 1 = cc in omega arith
 
 -- Two equal answers of ticks are of the same number.
-same_ticks : {n m : ℕ} → Ticks n ≡ Ticks m → n ≡ m
+same_ticks : {n m : ℕ} → ◌≡◌ {A = Result ℕ Refusal} (Ok n) (Ok m) → n ≡ m
 same_ticks e = cc
 
 -- A node of kind 4 or 5 that passed 6 stands over an atom.
@@ -62,11 +63,11 @@ whole_ticks : (rows : List ℕ) {t : List ℕ} {width : ℕ} → GoodRows t rows
 whole_ticks rows {width = width} g = omega (arith, g.even, div-add-mod' (length rows) width)
 
 -- An answer of ticks, after what was found of the tree: nothing was refused.
-nothing_refused : (found : Table) (t rows : List ℕ) (width answers work : ℕ) {ticks : ℕ} → judged_rows found t rows width answers work ≡ Ticks ticks
-    → (found ≡ Formed) × (good_rows t rows width ≡ true) × (room_enough t (ticks_of rows width) answers work ≡ true) × (ticks_of rows width ≡ ticks)
+nothing_refused : (found : Result (Unit {0}) Refusal) (t rows : List ℕ) (width answers work : ℕ) {ticks : ℕ} → judged_rows found t rows width answers work ≡ Ok ticks
+    → (found ≡ formed) × (good_rows t rows width ≡ true) × (room_enough t (ticks_of rows width) answers work ≡ true) × (ticks_of rows width ≡ ticks)
 unfolding judged_rows
-nothing_refused (Misformed number place) t rows width answers work e = absurd (refused_is_not_ticks e)
-nothing_refused Formed t rows width answers work e =
+nothing_refused (Err refusal) t rows width answers work e = absurd (refused_is_not_ticks e)
+nothing_refused (Ok passed) t rows width answers work e =
     let (good, more) = first_taken (good_rows t rows width) refused_is_not_ticks e in
     let (room, same) = first_taken (room_enough t (ticks_of rows width) answers work) refused_is_not_ticks more in
     (refl, good, room, same_ticks same)
@@ -78,7 +79,7 @@ the_room_is_enough t ticks answers work e =
     let (answered, enough) = second_holds (ltb answers ticks) e in (ltb-false _ _ answered, leb-true _ _ enough)
 
 -- What is answered with ticks can be matched.
-pub an_answer_is_matchable : (t rows : List ℕ) (width answers work : ℕ) {ticks : ℕ} → judged t rows width answers work ≡ Ticks ticks
+pub an_answer_is_matchable : (t rows : List ℕ) (width answers work : ℕ) {ticks : ℕ} → judged t rows width answers work ≡ Ok ticks
     → Matchable t rows width ticks answers work
 unfolding judged
 an_answer_is_matchable t rows width answers work e =
@@ -90,7 +91,7 @@ an_answer_is_matchable t rows width answers work e =
       checked = tree.checked;
       formed = a_formed_table t tree.checked;
       few = tree.few;
-      over_atoms = λ n h. over_its_atom t n (each_passes 6 (over_an_atom t) (nodes t) 0 Formed tree.repeats n (omega arith) (omega arith));
+      over_atoms = λ n h. over_its_atom t n (each_passes NotOverAnAtom (over_an_atom t) (nodes t) 0 formed tree.repeats n (omega arith) (omega arith));
       atoms = λ n h. the_atom_is_in_the_row t width n (each_in_the_row t width (nodes t) r.inside n h);
       wide = r.wide;
       counted = sym same;

@@ -1,4 +1,3 @@
-pub mod Trees
 pub mod Rows
 pub mod Judging
 pub mod Laws

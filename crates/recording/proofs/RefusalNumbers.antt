@@ -9,46 +9,45 @@ use Rattle.words.specs.Choice.{pick_case}
 use Rattle.meaning.specs.Tree.{nodes}
 use Rattle.meaning.specs.Refusals.{lowest_failing, table}
 use Rattle.meaning.specs.Lower.{after_nothing, lower}
-use Rattle.meaning.specs.declared.Table.{Table}
-use Rattle.meaning.specs.declared.Table.TheVariants.{Formed, Refused as Misformed}
-use Rattle.meaning.specs.declared.Lowered.TheVariants.{Refused as NotLowered}
+use Rattle.std.specs.Prelude.{Result, Ok, Err}
+use Rattle.meaning.specs.Answers.{number as number_of, formed}
+use Rattle.meaning.specs.declared.refusal.Refusal.{Refusal}
+use Rattle.meaning.specs.declared.refusal.Refusal.TheVariants.{NotOverAnAtom}
 use Rattle.meaning.proofs.RefusalNumbers.{refusals_are_numbered_from_1_to_14}
 use Rattle.recording.specs.Refusals.{over_an_atom, and_then, judged_tree, ticks_of, good_rows, room_enough, judged_rows, judged}
-use Rattle.recording.specs.declared.Matched.{Matched}
-use Rattle.recording.specs.declared.Matched.TheVariants.{Ticks, Refused}
 
 -- A number of a refusal, and answers that have no other where they refuse.
 abbrev RefusalNumber : ℕ → Type 0
 RefusalNumber number = (1 ≤ number) × (number ≤ 18)
 
-abbrev TableNumbered : Table → Type 0
-TableNumbered Formed = Unit {0}
-TableNumbered (Misformed number place) = RefusalNumber number
+abbrev TableNumbered : Result (Unit {0}) Refusal → Type 0
+TableNumbered (Ok passed) = Unit {0}
+TableNumbered (Err refusal) = RefusalNumber (number_of refusal)
 
-abbrev pub Numbered : Matched → Type 0
-Numbered (Ticks ticks) = Unit {0}
-Numbered (Refused number place) = RefusalNumber number
+abbrev pub Numbered : Result ℕ Refusal → Type 0
+Numbered (Ok ticks) = Unit {0}
+Numbered (Err refusal) = RefusalNumber (number_of refusal)
 
 -- The refusals 1, 2 and 3 are those with which lowering refuses the same table.
-not_lowered : (t : List ℕ) {number place : ℕ} → table t ≡ Misformed number place → lower t 0 0 0 ≡ NotLowered number place
+not_lowered : (t : List ℕ) {refusal : Refusal} → table t ≡ Err refusal → lower t 0 0 0 ≡ Err refusal
 unfolding lower after_nothing
 not_lowered t e = rw e refl
 
-table_numbered : (t : List ℕ) (found : Table) → table t ≡ found → TableNumbered found
-table_numbered t Formed e = tt
-table_numbered t (Misformed number place) e =
+table_numbered : (t : List ℕ) (found : Result (Unit {0}) Refusal) → table t ≡ found → TableNumbered found
+table_numbered t (Ok passed) e = tt
+table_numbered t (Err refusal) e =
     let (some, few) = rw (not_lowered t e) at (refusals_are_numbered_from_1_to_14 t 0 0 0) in (omega arith, omega arith)
 
 -- The refusal 6 has its number.
-lowest_numbered : (test : ℕ → Bool) (count n : ℕ) → TableNumbered (lowest_failing 6 test count n Formed)
+lowest_numbered : (test : ℕ → Bool) (count n : ℕ) → TableNumbered (lowest_failing NotOverAnAtom test count n formed)
 unfolding lowest_failing
 lowest_numbered test zero n = tt
 lowest_numbered test (suc count) n = pick_case TableNumbered (test n) (λ _. lowest_numbered test count (n + 1)) (λ _. omega arith)
 
-and_then_numbered : (first next : Table) → TableNumbered first → TableNumbered next → TableNumbered (and_then first next)
+and_then_numbered : (first next : Result (Unit {0}) Refusal) → TableNumbered first → TableNumbered next → TableNumbered (and_then first next)
 unfolding and_then
-and_then_numbered Formed next p q = q
-and_then_numbered (Misformed number place) next p q = p
+and_then_numbered (Ok passed) next p q = q
+and_then_numbered (Err refusal) next p q = p
 
 tree_numbered : (t : List ℕ) → TableNumbered (judged_tree t)
 unfolding judged_tree
@@ -57,10 +56,10 @@ tree_numbered t =
     (λ _. and_then_numbered (table t) _ (table_numbered t (table t) refl) (lowest_numbered (over_an_atom t) (nodes t) 0))
 
 -- The refusals 17 and 18 have their numbers.
-rows_numbered : (found : Table) → TableNumbered found → (t rows : List ℕ) (width answers work : ℕ) → Numbered (judged_rows found t rows width answers work)
+rows_numbered : (found : Result (Unit {0}) Refusal) → TableNumbered found → (t rows : List ℕ) (width answers work : ℕ) → Numbered (judged_rows found t rows width answers work)
 unfolding judged_rows
-rows_numbered (Misformed number place) p t rows width answers work = p
-rows_numbered Formed p t rows width answers work =
+rows_numbered (Err refusal) p t rows width answers work = p
+rows_numbered (Ok passed) p t rows width answers work =
     pick_case Numbered (good_rows t rows width)
     (λ _. pick_case Numbered (room_enough t (ticks_of rows width) answers work) (λ _. tt) (λ _. omega arith))
     (λ _. omega arith)

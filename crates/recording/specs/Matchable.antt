@@ -5,13 +5,13 @@ use Rattle.meaning.specs.Tree.{node_at, nodes}
 use Rattle.meaning.specs.Kinds.{columns}
 use Rattle.meaning.specs.Tick.{all_bits}
 use Rattle.meaning.specs.Refusals.{table}
+use Rattle.meaning.specs.Answers.{formed}
 use Rattle.meaning.specs.Lowerable.{FormedTable}
 use Rattle.meaning.specs.declared.Part.TheVariants.{Atom}
-use Rattle.meaning.specs.declared.Table.TheVariants.{Formed}
 
 -- A tree and rows that can be matched, with so many bytes of answers and of work.
 pub record Matchable (tree rows : List ℕ) (width ticks answers work : ℕ) : Type 0 where
-  pub checked : table tree ≡ Formed
+  pub checked : table tree ≡ formed
   pub formed : FormedTable tree
   pub few : nodes tree ≤ 64
   pub over_atoms : (n : ℕ) → n < nodes tree → ((node_at tree n).kind ≡ 4) ⊎ ((node_at tree n).kind ≡ 5) → (node_at tree (node_at tree n).p).kind ≡ 1

@@ -12,58 +12,33 @@
 
 ghost use Rattle.std.specs.Prelude.{◌≤◌, length};
 
+use meaning::Refusal;
+
 // What lent bytes are filled with: neither 0 nor 1.
 const FILLED: u8 = 0x5a;
-
-// Puts the value of a digit at the place, if the byte is one and there is room; the next place.
-fn add_digit(byte: u8, bytes: &mut [u8], place: usize) -> usize
-    requires { place ≤ length bytes.old }
-    ensures { result ≤ length bytes.new }
-{
-    if byte < b'0' {
-        return place;
-    }
-    if b'9' < byte {
-        return place;
-    }
-    if bytes.len() <= place {
-        return place;
-    }
-    bytes[place] = byte - b'0';
-    place + 1
-}
 
 // Puts the values of a text's digits from the front of `bytes` on, as many as there is room for; how many these are.
 fn digits(text: &[u8], bytes: &mut [u8]) -> usize
     ensures { result ≤ length bytes.new }
 {
     let mut count = 0;
-    let mut i = 0;
-    while i < text.len() {
-        count = add_digit(text[i], bytes, count);
-        i += 1;
+    for byte in text {
+        if byte.is_ascii_digit() && count < bytes.len() {
+            bytes[count] = *byte - b'0';
+            count += 1;
+        }
     }
     count
 }
 
-// Whether the byte stands at every place from `from` on.
-fn only(byte: u8, bytes: &[u8], from: usize) -> bool {
-    let mut i = from;
-    while i < bytes.len() {
-        if bytes[i] != byte {
-            return false;
-        }
-        i += 1;
-    }
-    true
-}
-
 // Says so where it is not as promised: that work is all zero, and the answers past the ticks are as they were.
-fn inspect(ticks: usize, answers: &[u8], work: &[u8]) {
-    if !only(0, work, 0) {
+fn inspect(ticks: usize, answers: &[u8], work: &[u8])
+    requires { ticks ≤ length answers.now }
+{
+    if work.iter().any(|byte| *byte != 0) {
         io::write_all(1, b"work left filled\n");
     }
-    if !only(FILLED, answers, ticks) {
+    if answers[ticks..].iter().any(|byte| *byte != FILLED) {
         io::write_all(1, b"later answers changed\n");
     }
 }
@@ -74,39 +49,31 @@ fn say(number: u64, end: &[u8]) {
     io::write_all(1, end);
 }
 
-// An answer, which is one digit if it is as promised.
-fn say_digit(byte: u8) {
-    io::print_decimal(1, byte as u64);
-}
-
-// The answers, a digit each, and the line's end.
+// The answers, which are one digit each if they are as promised, and the line's end.
 fn say_answers(answers: &[u8]) {
-    let mut i = 0;
-    while i < answers.len() {
-        say_digit(answers[i]);
-        i += 1;
+    for answer in answers {
+        io::print_decimal(1, u64::from(*answer));
     }
     io::write_all(1, b"\n");
 }
 
 // The text of what was answered, once what was lent has been looked at.
-fn show(answer: recording::Matched, answers: &[u8], work: &[u8]) {
+fn show(answer: Result<usize, Refusal>, answers: &[u8], work: &[u8]) {
     match answer {
-        recording::Matched::Ticks(ticks) => {
-            if answers.len() < ticks {
-                io::write_all(1, b"more ticks than answers\n");
-                return;
-            }
+        Ok(ticks) if ticks <= answers.len() => {
             inspect(ticks, answers, work);
             io::write_all(1, b"ok ");
             say(ticks as u64, b"\n");
             say_answers(&answers[..ticks]);
         }
-        recording::Matched::Refused(number, place) => {
+        Ok(_) => {
+            io::write_all(1, b"more ticks than answers\n");
+        }
+        Err(refusal) => {
             inspect(0, answers, work);
             io::write_all(1, b"refused ");
-            say(number as u64, b" ");
-            say(place as u64, b"\n");
+            say(u64::from(refusal.number()), b" ");
+            say(u64::from(refusal.place()), b"\n");
         }
     }
 }
@@ -124,18 +91,16 @@ fn replay_case(line: &[u8], rows: &mut [u8], answers: &mut [u8], work: &mut [u8]
     let bar = cases::until(line, 0, b'|');
     let count = cases::numbers(&line[..bar], &mut numbers);
     let rows_end = digits(&line[bar..], rows);
-    let first = 3;
-    if count < first {
+    let [width, answers_asked, work_asked, tree @ ..] = &numbers[..count] else {
         io::write_all(1, b"no tree\n");
         return;
-    }
-    let width = numbers[0];
-    let answers_end = cases::lesser(numbers[1], answers.len());
-    let work_end = cases::lesser(numbers[2], work.len());
+    };
+    let answers_end = cases::lesser(*answers_asked, answers.len());
+    let work_end = cases::lesser(*work_asked, work.len());
     matched(
-        &numbers[first..count],
+        tree,
         &rows[..rows_end],
-        width,
+        *width,
         &mut answers[..answers_end],
         &mut work[..work_end],
     );
@@ -149,36 +114,8 @@ fn replay_filled(line: &[u8]) {
     replay_case(line, &mut rows, &mut answers, &mut work);
 }
 
-// A line: to be skipped, or a case's name, or its numbers and rows; whether these are to come.
-fn replay_line(line: &[u8], named: bool) -> bool {
-    if line.len() == 0 {
-        return named;
-    }
-    if line[0] == b'#' {
-        return named;
-    }
-    if named {
-        replay_filled(line);
-        return false;
-    }
-    io::write_all(1, line);
-    io::write_all(1, b"\n");
-    true
-}
-
-// Every line, in turn.
-fn replay(input: &[u8]) {
-    let mut named = false;
-    let mut from = 0;
-    while from < input.len() {
-        let end = cases::until(input, from, b'\n');
-        named = replay_line(&input[from..end], named);
-        from = end + 1;
-    }
-}
-
 fn main() {
     let mut input = [0u8; 262144];
     let count = io::read_full(0, &mut input);
-    replay(&input[..count]);
+    replay::each_case(&input[..count], replay_filled);
 }

@@ -79,18 +79,18 @@ module _ {tables : List ℕ} {table first : ℕ} {before after : List ℕ} {k : 
   Below n = Onward (Begun tables table side n) before first
 
   -- The table's row for the point lies inside of the table.
-  pub closing_inside : table + length before * length before ≤ length tables → k < length after
+  pub closing_inside : table + length before * length before ≤ length tables → k < length before
       → table + k * length after + length after ≤ length tables
-  closing_inside h l = rw C.gained.long (row_inside table k side (length tables) h (omega (arith, C.gained.long)))
+  closing_inside h l = rw C.gained.long (row_inside table k side (length tables) h l)
 
   -- What is reached by runs that begin below this point is reached by such that begin below the next.
   still : (j : ℕ) → Below k j → Below (k + 1) j
   still j (m, c, p, o, xs) = (m, c, p, o, later tables table side k (suc c) m j xs)
 
-  module _ (l : k < length after) where
+  module _ (l : k < length before) where
     -- The point is in the row where it was, or where runs that begin below it end there.
     point : In after k ↔ (In before k ⊎ Below k k)
-    point = in_gained C.gained k (omega (arith, C.gained.long))
+    point = in_gained C.gained k l
 
     -- From a point of the row a run of the table reaches its end.
     onto : (j : ℕ) → In after k → Kept tables table side k j → Below (k + 1) j
@@ -137,11 +137,11 @@ module _ {tables : List ℕ} {table first : ℕ} {before after : List ℕ} {k : 
     }
 
   -- At the end of the row all were added.
-  pub closing_ends : length after ≤ k → Gains before after (Onward (Kept tables table (length before)) before first)
+  pub closing_ends : length before ≤ k → Gains before after (Onward (Kept tables table (length before)) before first)
   closing_ends l =
       gains_as
       (λ j h. (
-        λ (m, c, p, o, xs). (m, c, p, o, (all_begun tables table side k (suc c) m j (omega (arith, C.gained.long))).1 xs),
-        λ (m, c, p, o, xs). (m, c, p, o, (all_begun tables table side k (suc c) m j (omega (arith, C.gained.long))).0 xs),
+        λ (m, c, p, o, xs). (m, c, p, o, (all_begun tables table side k (suc c) m j l).1 xs),
+        λ (m, c, p, o, xs). (m, c, p, o, (all_begun tables table side k (suc c) m j l).0 xs),
       ))
       C.gained

@@ -10,8 +10,8 @@ use native.Mathlib.Nat.{zero-add}
 use native.Mathlib.Numerals.{add-one}
 use native.Mathlib.Decide.{ℕ_discrete, dec_le}
 use lib.ListN.{length, get_or, set, take, drop, replicate, length-set}
-use Rattle.words.specs.Choice.{Tells}
-use Rattle.words.proofs.Taken.{told}
+use lib.Dec.{eqb}
+use lib.Pointwise.{pointwise}
 use Rattle.meaning.specs.Match.{Times}
 use Rattle.meaning.proofs.RunLaws.{times_forward}
 use Rattle.runs.specs.Ends.{Gains, In, Kept, Reached}
@@ -19,7 +19,7 @@ use Rattle.runs.proofs.Laws.{gains_none, gains_as, gains_then, gains_one, in_gai
 use Rattle.repeated_runs.specs.Repeated.{Repeated, Alike, Carries, Last, Onward}
 use Rattle.repeated_runs.proofs.Copies.{settled, no_highest, that_or_more}
 use Rattle.repeated_runs.proofs.Closing.{kept_forward}
-use Rattle.repeated_runs.proofs.Rows.{part_long, part_carries, whole_long, whole_carries}
+use Rattle.repeated_runs.proofs.Rows.{alike_parts, part_long, part_carries, whole_long, whole_carries}
 
 module _ (tables : List ℕ) (table side i : ℕ) where
   -- An end that so many copies reach from i.
@@ -182,13 +182,13 @@ module _ {tables : List ℕ} {table low high i copies : ℕ} {before after ends 
     }
 
     -- One copy more reaches the same ends, and so does each from there on.
-    pub repeating_settles : {b : Bool} {row : List ℕ} → Tells b (Alike ends next (length before)) → b ≡ true → row ≡ after'
+    pub repeating_settles : {b : Bool} {row : List ℕ} → b ≡ pointwise eqb (take (length before) ends) (take (length before) next) → b ≡ true → row ≡ after'
         → Made tables table low high i before row ends
-    repeating_settles t e r = rw r record {
+    repeating_settles s e r = rw r record {
       copies = suc copies;
       few = omega arith;
       wide = R.wide;
-      carried = λ c p q. same_carries tables table (length before) i copies R.carried more (told t e) c (omega arith);
+      carried = λ c p q. same_carries tables table (length before) i copies R.carried more (alike_parts ends next (length before) s e) c (omega arith);
       gained = one_more_gained tables table (length before) i low copies refl R.carried R.gained g;
     }
       where

@@ -1,42 +1,25 @@
 -- Rows of 257 bytes: which two are the same, what the first part of one is, and what one carries that had no ends before.
-use mathlib.Core.Bool.{true, false}
-use mathlib.Core.Path.{◌≡◌, refl, subst}
-use mathlib.Core.Logic.{inl, inr, ◌↔◌}
+use mathlib.Core.Bool.{Bool, true}
+use mathlib.Core.Path.{◌≡◌, sym, ap, ◌∙◌}
+use mathlib.Core.Logic.{◌↔◌}
 use mathlib.Core.List.{List, ◌++◌}
 use Prim.Native.Nat.{ℕ, ◌+◌, ◌*◌, ◌≤◌, ◌<◌}
 use native.Mathlib.Omega.{arith}
-use native.Mathlib.Decide.{ℕ_discrete}
+use lib.Dec.{eqb}
+use lib.Pointwise.{pointwise}
+use Rattle.std.proofs.lemmas.Bool.Decides.{Decides-eqb}
+use Rattle.std.proofs.lemmas.Slice.Eq.{slice_eq-Decides}
 use lib.ListN.{length, get_or, take, drop, replicate, length-append, length-drop, get_or-append}
 use lib.Seq.{get_or-take, length-take-le}
-use Rattle.words.specs.Choice.{Tells}
 use Rattle.runs.specs.Ends.{Gains, In, Reached}
 use Rattle.runs.proofs.Laws.{zeros_blank, part_blank, in_gained_blank}
 use Rattle.repeated_runs.specs.Repeated.{Alike, Carries}
 
--- Two rows that are compared are the same below j.
-pub record Comparing (x y : List ℕ) (side j : ℕ) : Type 0 where
-  pub inside : j ≤ side
-  pub alike : Alike x y j
-
--- At first there is nothing to compare.
-pub comparing_begins : (x y : List ℕ) (side : ℕ) → Comparing x y side 0
-comparing_begins x y side = record { inside = omega arith; alike = λ k l. absurd (omega arith) }
-
-module _ {x y : List ℕ} {side j : ℕ} (C : Comparing x y side j) where
-  -- Rows that are the same below j and at j are the same below j + 1.
-  pub comparing_on : j < side → get_or x j 0 ≡ get_or y j 0 → Comparing x y side (j + 1)
-  comparing_on l e = record {
-    inside = omega arith;
-    alike = λ k h. elim (ℕ_discrete j k) [ yes z ↦ subst (λ n. get_or x n 0 ≡ get_or y n 0) z e | no z ↦ C.alike k (omega arith) ];
-  }
-
-  -- Rows that differ at j are not alike.
-  pub differ_here : j < side → (get_or x j 0 ≡ get_or y j 0 → ⊥) → Tells false (Alike x y side)
-  differ_here l n = inr (refl, λ a. n (a j l))
-
-  -- Rows that are the same up to their side are alike.
-  pub differ_nowhere : side ≤ j → Tells true (Alike x y side)
-  differ_nowhere l = inl (refl, λ k h. C.alike k (omega arith))
+-- Two rows whose first bytes compare as equal are alike there.
+pub alike_parts : (x y : List ℕ) (side : ℕ) {b : Bool} → b ≡ pointwise eqb (take side x) (take side y) → b ≡ true → Alike x y side
+alike_parts x y side s e j l =
+    let same = (slice_eq-Decides Decides-eqb _ _ _ s).0 e in
+    sym (get_or-take side x j 0 l) ∙ ap (λ z. get_or z j 0) same ∙ get_or-take side y j 0 l
 
 module _ (row : List ℕ) (n : ℕ) (w : length row ≡ 257) (f : n ≤ 257) where
   -- The first n bytes of a row are n.

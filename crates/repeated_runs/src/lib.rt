@@ -7,51 +7,16 @@
 // Example: from start 0, with a at the ticks 0 and 1, `a[*1:$]` reaches 1 by one copy, and from there 2.
 #![tactic(auto)]
 
-ghost use Rattle.std.specs.Prelude.{◌≡◌, ◌+◌, ◌*◌, ◌≤◌, ◌<◌, min, length, replicate};
-ghost use Rattle.words.specs.Choice.{Tells};
+ghost use Rattle.std.specs.Prelude.{◌≡◌, ◌+◌, ◌*◌, ◌≤◌, ◌<◌, length};
 ghost use Rattle.runs.specs.Ends.{Gains, In, Kept, Stands, Reached};
-ghost use Rattle.repeated_runs.specs.Repeated.{Repeated, Alike, Carries, Last, Onward};
-
-// The lower of a count and the side of a table: a copy more than there are ticks.
-fn capped(count: u32, side: usize) -> usize
-    ensures { result ≡ min count side }
-{
-    if side <= count as usize {
-        return side;
-    }
-    count as usize
-}
+ghost use Rattle.repeated_runs.specs.Repeated.{Repeated, Carries, Last, Onward};
 
 // The last count to which copies are made one by one: the lowest one, where the highest is not below the side, and else the highest.
 fn last(low: usize, max: u32, side: usize) -> usize
     ensures { Last result low max side }
 {
-    if side <= max as usize {
-        return low;
-    }
-    max as usize
-}
-
-// Whether two rows have the same ends below the side.
-fn same(x: &[u8; runs::SIDE], y: &[u8; runs::SIDE], side: usize) -> bool
-    requires { side ≤ 257 }
-    ensures { Tells result (Alike x.now y.now side) }
-{
-    let mut j = 0;
-    while j < side {
-        if x[j] != y[j] {
-            return false;
-        }
-        j += 1;
-    }
-    true
-}
-
-// A row without ends.
-fn no_ends() -> [u8; runs::SIDE]
-    ensures { result ≡ replicate 257 0 }
-{
-    [0; runs::SIDE]
+    let max = max as usize;
+    if side <= max { low } else { max }
 }
 
 // The ends of one copy more, from those of the copies before.
@@ -59,7 +24,7 @@ fn once_more(tables: &[u8], table: usize, first: usize, from: &[u8]) -> [u8; run
     requires { Stands tables.now table (length from.now) × (length from.now ≤ 257) }
     ensures { Carries result (length from.now) (Reached tables.now table (length from.now) from.now first 0) }
 {
-    let mut to = no_ends();
+    let mut to = [0; runs::SIDE];
     runs::reach(tables, table, from, first, 0, &mut to[..from.len()]);
     to
 }
@@ -69,10 +34,9 @@ fn add_counted(copies: usize, low: usize, ends: &[u8], i: usize, row: &mut [u8])
     requires { length row.old ≤ length ends.now }
     ensures { Gains row.old row.new (λ j. (low ≤ copies) × (i ≤ j) × In ends.now j) }
 {
-    if copies < low {
-        return;
+    if low <= copies {
+        runs::add_ends(ends, 0, i, row);
     }
-    runs::add_ends(ends, 0, i, row);
 }
 
 // Adds the ends that the table reaches, by one run or more, from the row's own, those from `first` on. Runs go forward, so one pass is
@@ -81,12 +45,10 @@ fn close(tables: &[u8], table: usize, first: usize, row: &mut [u8])
     requires { Stands tables.now table (length row.old) }
     ensures { Gains row.old row.new (Onward (Kept tables.now table (length row.old)) row.old first) }
 {
-    let mut k = first;
-    while k < row.len() {
+    for k in first..row.len() {
         if row[k] == 1 {
             runs::add_ends(tables, table + k * row.len(), k, row);
         }
-        k += 1;
     }
 }
 
@@ -97,19 +59,17 @@ pub fn repeated(tables: &[u8], table: usize, min: u32, max: u32, i: usize, row: 
     ensures { Gains row.old row.new (Repeated tables.now table (length row.old) min max i) }
 {
     let side = row.len();
-    let low = capped(min, side);
+    let low = (min as usize).min(side);
     let high = last(low, max, side);
-    let mut ends = no_ends();
+    let mut ends = [0; runs::SIDE];
     ends[i] = 1;
-    let mut copies = 0;
-    while copies < high {
+    for copies in 0..high {
         add_counted(copies, low, &ends, i, row);
         let next = once_more(tables, table, i, &ends[..side]);
-        if same(&ends, &next, side) {
+        if ends[..side] == next[..side] {
             break;
         }
         ends = next;
-        copies += 1;
     }
     if side <= max as usize {
         close(tables, table, i, &mut ends[..side]);

@@ -27,17 +27,17 @@ adding_begins tables place first row = record {
 
 -- Byte j is marked where the table's is 1.
 pub adding_on : {tables : List ℕ} {place first : ℕ} {before after : List ℕ} {j v : ℕ} → Adding tables place first before after j
-    → j < length after → Marked (get_or after j 0) v (get_or tables (place + j) 0 ≡ 1)
+    → j < length before → Marked (get_or after j 0) v (get_or tables (place + j) 0 ≡ 1)
     → Adding tables place first before (set after j v) (j + 1)
 adding_on a l m = record {
   since = omega (arith, a.since);
-  gained = gaining_on a.gained l (marked_as (λ e. (a.since, e), λ q. q.1) m);
+  gained = gaining_on a.gained (omega (arith, a.gained.long)) (marked_as (λ e. (a.since, e), λ q. q.1) m);
 }
 
 -- At the row's end all its ends were added.
 pub adding_ends : {tables : List ℕ} {place first : ℕ} {before after : List ℕ} {j : ℕ} → Adding tables place first before after j
-    → length after ≤ j → Gains before after (Added tables place first)
-adding_ends a l = gaining_ends (λ m k q. omega (arith, a.gained.long)) a.gained
+    → length before ≤ j → Gains before after (Added tables place first)
+adding_ends a l = gaining_ends (λ m k q. omega arith) a.gained
 
 -- The ends that were reached from the points below k.
 pub record Reaching (tables : List ℕ) (table : ℕ) (from : List ℕ) (first least : ℕ) (before after : List ℕ) (k : ℕ) : Type 0 where

@@ -16,10 +16,7 @@ pub const SIDE: usize = 257;
 fn marked(byte: u8, other: u8) -> u8
     ensures { Marked other result (byte ≡ 1) }
 {
-    if byte == 1 {
-        return 1;
-    }
-    other
+    if byte == 1 { 1 } else { other }
 }
 
 // Adds the ends of a table's row that begins at the place, from `first` on.
@@ -27,10 +24,8 @@ pub fn add_ends(tables: &[u8], place: usize, first: usize, to: &mut [u8])
     requires { place + length to.old ≤ length tables.now }
     ensures { Gains to.old to.new (λ j. (first ≤ j) × (get_or tables.now (place + j) 0 ≡ 1)) }
 {
-    let mut j = first;
-    while j < to.len() {
+    for j in first..to.len() {
         to[j] = marked(tables[place + j], to[j]);
-        j += 1;
     }
 }
 
@@ -39,11 +34,9 @@ pub fn reach(tables: &[u8], table: usize, from: &[u8], first: usize, least: usiz
     requires { Stands tables.now table (length to.old) × (length from.now ≤ length to.old) × (least ≤ 1) }
     ensures { Gains to.old to.new (Reached tables.now table (length to.old) from.now first least) }
 {
-    let mut k = first;
-    while k < from.len() {
+    for k in first..from.len() {
         if from[k] == 1 {
             add_ends(tables, table + k * to.len(), k + least, to);
         }
-        k += 1;
     }
 }

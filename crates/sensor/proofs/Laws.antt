@@ -5,29 +5,17 @@ use mathlib.Core.Bool.{Bool, true, false, not}
 use mathlib.Core.List.{List, [], ◌∷◌, ◌++◌}
 use Prim.Native.Nat.{ℕ, zero, suc, ◌+◌, ◌-◌, ◌/◌, ◌≤◌, ◌<◌}
 use native.Mathlib.Omega.{arith}
-use lib.Dec.{eqb, leb}
-use lib.ListN.{length, set, take}
+use lib.Dec.{eqb}
+use lib.ListN.{length, take}
 use borrow.Author.Tests.{eq-eqb, ne_eqb, not-true, not-false}
 use Rattle.words.specs.Choice.{pick, pick_true, pick_false}
-use Rattle.words.specs.Written.{written, Wrote}
-use Rattle.words.proofs.Laws.{Going, begin, go, done, still_long, nothing_written}
+use Rattle.words.specs.Written.{Wrote}
+use Rattle.words.proofs.Laws.{Going, begin, go, done, still_long, nothing_written, same_word}
 use Rattle.correction.specs.Map.{entry_of}
 use Rattle.correction.proofs.Frame.{one_equation}
-use Rattle.sensor.specs.Sensor.{sky_at, single_at, cluster_at, defective_at, reads_at, expected_at}
+use Rattle.sensor.specs.Sensor.{sky_at, defective_at, expected_at}
 use Rattle.sensor.specs.Maps.{has_entry, entry_for, row_entries, entries_from, as_fit}
 use Rattle.sensor.specs.declared.Loaded.{Loaded}
-use Rattle.sensor.specs.declared.Loaded.TheVariants.{AsMade, Transposed, OneLost}
-
--- The tests that are answered by another function.
-module _ (row column : ℕ) {b : Bool} where
-  pub by_cluster : {r : Bool} → b ≡ cluster_at row column → r ≡ pick (leb 480 row) false (pick (leb 752 column) false (pick b true (single_at row column)))
-      → r ≡ defective_at row column
-  unfolding defective_at
-  by_cluster e q = q ∙ rw e refl
-
-  pub by_defect : {r : ℕ} → b ≡ defective_at row column → r ≡ pick b 255 (sky_at row column) → r ≡ reads_at row column
-  unfolding reads_at
-  by_defect e q = q ∙ rw e refl
 
 -- Where the sensor is not defective, the sky is to leave of a pixel.
 module _ (row column : ℕ) {b : Bool} (e : b ≡ defective_at row column) where
@@ -56,21 +44,6 @@ module _ (row column : ℕ) {b : Bool} (e : b ≡ defective_at row column) where
         m ∙ ap₂ (λ (x y : ℕ). (x + y) / 2) p q
         ∙ sym (in_a_defect ∙ pick_false _ _ (ne_eqb column 0 c) ∙ pick_false _ _ (ne_eqb row 0 r))
 
--- Which pixels a map has an entry for, by how it was loaded.
-module _ {loaded : Loaded} (row column : ℕ) where
-  pub made_has : {r : Bool} → loaded ≡ AsMade → r ≡ defective_at row column → r ≡ has_entry loaded row column
-  unfolding has_entry
-  made_has e q = rw e q
-
-  pub transposed_has : {r : Bool} → loaded ≡ Transposed → r ≡ defective_at column row → r ≡ has_entry loaded row column
-  unfolding has_entry
-  transposed_has e q = rw e q
-
-  pub lost_has : {r : Bool} → loaded ≡ OneLost → r ≡ pick (eqb row 62) (pick (eqb column 121) false (defective_at row column)) (defective_at row column)
-      → r ≡ has_entry loaded row column
-  unfolding has_entry
-  lost_has e q = rw e q
-
 -- The first k of no elements, of none, and of two parts.
 take_none : (k : ℕ) → ◌≡◌ {A = List ℕ} (take k []) []
 take_none zero = refl
@@ -93,21 +66,21 @@ taken_in_two (suc k) (x ∷ xs) ys =
 
 -- A pixel's entry, put where the map has one and there is room.
 module _ (loaded : Loaded) (map : List ℕ) (place row column : ℕ) {b : Bool} (e : b ≡ has_entry loaded row column) where
-  pub no_entry : not b ≡ true → Wrote map map place place (as_fit map place (entry_for loaded row column))
+  pub no_entry : b ≡ false → Wrote map map place place (as_fit map place (entry_for loaded row column))
   unfolding entry_for
-  no_entry n = rw (pick_false (entry_of row column ∷ []) [] (sym e ∙ not-true b n), take_none (length map - place)) (nothing_written map place)
+  no_entry n = rw (pick_false (entry_of row column ∷ []) [] (sym e ∙ n), take_none (length map - place)) (nothing_written map place)
 
   pub no_room : length map ≤ place → Wrote map map place place (as_fit map place (entry_for loaded row column))
   no_room h = let z : length map - place ≡ 0 = omega arith in rw (z, nothing_taken) (nothing_written map place)
 
-  pub entry_put : {entry : ℕ} → not b ≡ false → place < length map → entry ≡ entry_of row column
-      → Wrote map (set map place entry) place (place + 1) (as_fit map place (entry_for loaded row column))
-  unfolding entry_for written
-  entry_put n h q =
+  pub entry_put : {map' : List ℕ} {next entry : ℕ} → b ≡ true → place < length map → entry ≡ entry_of row column
+      → Wrote map map' place next (entry ∷ []) → Wrote map map' place next (as_fit map place (entry_for loaded row column))
+  unfolding entry_for
+  entry_put n h q w =
       let k : length map - place ≡ suc (length map - (place + 1)) = omega arith in
       let one : as_fit map place (entry_for loaded row column) ≡ entry_of row column ∷ [] =
-      rw (pick_true (entry_of row column ∷ []) [] (sym e ∙ not-false b n), k) (ap (λ (l : List ℕ). entry_of row column ∷ l) (take_none (length map - (place + 1)))) in
-      rw one (record { holds = rw q refl; ends = refl })
+      rw (pick_true (entry_of row column ∷ []) [] (sym e ∙ n), k) (ap (λ (l : List ℕ). entry_of row column ∷ l) (take_none (length map - (place + 1)))) in
+      rw one (same_word q w)
 
 -- Entries put as far as there is room: to put all entries it remains to put those that are left.
 pub record Filling (map : List ℕ) (place : ℕ) (entries map' : List ℕ) (next : ℕ) (left : List ℕ) : Type 0 where

@@ -50,38 +50,23 @@ fn single(row: u32, column: u32) -> bool
 }
 
 // Sixteen neighbours, four by four.
+#[tactic(auto, using(words::specs::Choice::tests), unfolding(crate::specs::Sensor::cluster_at))]
 fn cluster(row: u32, column: u32) -> bool
     ensures { result ≡ cluster_at row column }
 {
-    if row < 60 {
-        return false;
-    }
-    if 63 < row {
-        return false;
-    }
-    if column < 120 {
-        return false;
-    }
-    column <= 123
+    60 <= row && row <= 63 && 120 <= column && column <= 123
 }
 
 // Whether the sensor is defective there. Nothing outside the frame is.
+#[tactic(auto, using(words::specs::Choice::tests), unfolding(crate::specs::Sensor::defective_at))]
 pub fn defective(row: u32, column: u32) -> bool
     ensures { result ≡ defective_at row column }
 {
-    if ROWS <= row {
-        return false;
-    }
-    if COLUMNS <= column {
-        return false;
-    }
-    if cluster(row, column) {
-        return true;
-    }
-    single(row, column)
+    row < ROWS && column < COLUMNS && (cluster(row, column) || single(row, column))
 }
 
 // What the sensor reads.
+#[tactic(auto, using(words::specs::Choice::tests), unfolding(crate::specs::Sensor::reads_at))]
 pub fn read(row: u32, column: u32) -> u8
     requires { (row < 480) × (column < 752) }
     ensures { result ≡ reads_at row column }
@@ -121,21 +106,14 @@ pub fn expected(row: u32, column: u32) -> u8
 }
 
 // Whether a map that was loaded so has an entry for the row and the column.
+#[tactic(auto, using(words::specs::Choice::tests), unfolding(crate::specs::Maps::has_entry))]
 fn has(loaded: Loaded, row: u32, column: u32) -> bool
     ensures { result ≡ has_entry loaded row column }
 {
     match loaded {
         Loaded::AsMade => defective(row, column),
         Loaded::Transposed => defective(column, row),
-        Loaded::OneLost => {
-            if row != LOST_ROW {
-                return defective(row, column);
-            }
-            if column == LOST_COLUMN {
-                return false;
-            }
-            defective(row, column)
-        }
+        Loaded::OneLost => (row != LOST_ROW || column != LOST_COLUMN) && defective(row, column),
     }
 }
 
@@ -144,14 +122,10 @@ fn add(loaded: Loaded, map: &mut [u32], place: usize, row: u32, column: u32) -> 
     requires { (place ≤ length map.old) × (row < 65536) × (column < 65536) }
     ensures { Wrote map.old map.new place result (as_fit map.old place (entry_for loaded row column)) }
 {
-    if !has(loaded, row, column) {
-        return place;
+    if has(loaded, row, column) && place < map.len() {
+        return words::put(map, place, correction::entry_of(row, column));
     }
-    if map.len() <= place {
-        return place;
-    }
-    map[place] = correction::entry_of(row, column);
-    place + 1
+    place
 }
 
 // Puts the entries of a row from the place on, as far as there is room; the next place.
@@ -160,10 +134,8 @@ fn add_row(loaded: Loaded, map: &mut [u32], place: usize, row: u32) -> usize
     ensures { Wrote map.old map.new place result (as_fit map.old place (row_entries loaded row 752 0)) }
 {
     let mut next = place;
-    let mut column = 0;
-    while column < COLUMNS {
+    for column in 0..COLUMNS {
         next = add(loaded, map, next, row, column);
-        column += 1;
     }
     next
 }
@@ -174,10 +146,8 @@ pub fn load(loaded: Loaded, map: &mut [u32]) -> usize
     ensures inside { result ≤ length map.new }
 {
     let mut place = 0;
-    let mut row = 0;
-    while row < COLUMNS {
+    for row in 0..COLUMNS {
         place = add_row(loaded, map, place, row);
-        row += 1;
     }
     place
 }

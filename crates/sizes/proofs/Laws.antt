@@ -1,5 +1,5 @@
 -- Bounds that keep the sums within 64 bits, and the loop over the steps. They assume nothing.
-use mathlib.Core.Path.{◌≡◌, refl, sym, ap, ap₂, ◌∙◌}
+use mathlib.Core.Path.{◌≡◌, refl, sym, ap₂, ◌∙◌}
 use mathlib.Core.Bool.{Bool}
 use mathlib.Core.List.{List}
 use Prim.Native.Nat.{ℕ, zero, suc, ◌+◌, ◌*◌, ◌-◌, ◌<◌, ◌≤◌}
@@ -63,7 +63,7 @@ unfolding hop_stores_size hop_registers
 hop_stores_small g (Fixed d) e l k = delays_small g d e l k
 hop_stores_small g (AtLeast m) e l k = omega (arith, k, at_least_itself m)
 
-goto_small : (count a : ℕ) → goto_size count a ≤ a + a + 19 + count * 11
+pub goto_small : (count a : ℕ) → goto_size count a ≤ a + a + 19 + count * 11
 unfolding goto_size
 goto_small count a = under (ltb count 2) (omega arith) (omega arith)
 
@@ -74,29 +74,6 @@ term_stores_small (Goto b count) a = omega (arith, goto_small count a)
 term_stores_small (Nonconsec b count) a = omega (arith, goto_small count a, term_text_small (Nonconsec b count) a)
 term_stores_small (ConsecAtLeast b count) a = omega arith
 term_stores_small Empty a = omega arith
-
--- `delays`.
-module _ {d g : ℕ} (h : d ≤ 65536) (k : g ≤ most_guard_words) where
-  pub others_fit : Fits w64 ((d - 1) * (2 + g))
-  others_fit = omega (arith, product_small (d - 1) g (omega (arith, h)) k)
-
-  pub delays_fit : {x : ℕ} → x ≤ most_text_words → Fits w64 (x + 1 + (d - 1) * (2 + g))
-  delays_fit l = omega (arith, product_small (d - 1) g (omega (arith, h)) k, l)
-
--- `hop_stores`: a match on the hop.
-pub hop_variant : {x y : SeqHop} {m : ℕ} → x ≡ y → hop_registers y ≡ m → hop_registers x ≤ 65536 → m ≤ 65536
-hop_variant e f h = rw (← f, ← e) h
-
--- `nonconsec_size`.
-module _ (x : SeqTerm) (count a : ℕ) {u v : ℕ} (h : count < 4294967296) (e : u ≡ goto_size count a) (f : v ≡ term_text_size x a) (l : a ≤ most_activation_words) where
-  pub nonconsec_fits : Fits w64 (u + v)
-  nonconsec_fits = omega (arith, e, f, h, l, goto_small count a, term_text_small x a)
-
-  pub nonconsec_one_fits : Fits w64 (u + v + 1)
-  nonconsec_one_fits = omega (arith, e, f, h, l, goto_small count a, term_text_small x a)
-
-pub lead_fits : (x : SeqTerm) {u g : ℕ} → u ≡ lead_text_size x → g ≤ most_guard_words → Fits w64 (u + g)
-lead_fits x e h = omega (arith, e, h, lead_text_small x)
 
 -- `step_size`.
 module _ (s : SeqStep) {h : SeqHop} (e : h ≡ reach s) (l : step_registers s ≤ 65536) where
@@ -122,6 +99,8 @@ module _ (s : SeqStep) {g x : ℕ} {h : SeqHop} {a u v : ℕ} (e : h ≡ reach s
 
   pub stores_fit : {z : ℕ} → z ≤ most_store_words → Fits w64 (z + (u + v))
   stores_fit q = omega (arith, step_stores_small, q)
+
+pub ruleset step_sums = (step_hop_small, activation_small, own_fits, stores_fit)
 
 -- The sizes after the k-th step.
 first_text : (g : ℕ) (x : SeqTerm) → (first_size g x).text ≤ 16 + g
@@ -167,12 +146,6 @@ module _ {W : List ℕ} {a : Kept} (C : Countable W a) where
       omega (arith, stores_small k (omega (arith, h)), stores_grow (length (guard_of W a)) (step_of W a (suc k)) (size_up_to_step W a k) l C.short (text_low k (omega (arith, h))))
 
 -- The loop of `sizes`: z are the sizes after the step before the k-th.
-pub record Sizing (W : List ℕ) (a : Kept) (g : ℕ) (z : Size) (k : ℕ) : Type 0 where
-  pub later : 1 ≤ k
-  pub turn : k ≤ a.steps
-  pub guard : g ≡ length (guard_of W a)
-  pub holds : z ≡ size_up_to_step W a (k - 1)
-
 module _ {W : List ℕ} {a : Kept} (C : Countable W a) where
   guard_words : a.end - a.guard ≡ length (guard_of W a)
   guard_words = sym (length_of_guard C.whole)
@@ -180,37 +153,24 @@ module _ {W : List ℕ} {a : Kept} (C : Countable W a) where
   pub guard_short : a.end - a.guard ≤ most_guard_words
   guard_short = omega (arith, C.short, guard_words)
 
-  pub sizing_begins : {z : Size} {s : SeqStep} → s ≡ step_of W a 0 → z ≡ first_size (a.end - a.guard) s.term → Sizing W a (a.end - a.guard) z 1
+  pub sizing_begins : {z : Size} {s : SeqStep} → s ≡ step_of W a 0 → z ≡ first_size (a.end - a.guard) s.term → z ≡ size_up_to_step W a 0
   unfolding size_up_to_step
-  sizing_begins w q = record { later = omega arith; turn = C.whole.some; guard = guard_words; holds = q ∙ rw (guard_words, w) refl }
+  sizing_begins w q = q ∙ rw (guard_words, w) refl
 
-  module _ {g : ℕ} {z : Size} {k : ℕ} (Z : Sizing W a g z k) where
-    module _ (h : k < a.steps) where
-      pub sizing_guard : g ≤ most_guard_words
-      sizing_guard = omega (arith, C.short, Z.guard)
+  module _ {z : Size} {k : ℕ} (e : z ≡ size_up_to_step W a (k - 1)) (h : k < a.steps) where
+    pub sizing_text : z.text ≤ most_text_words
+    sizing_text = rw e (text_low C (k - 1) (omega (arith, h)))
 
-      pub sizing_text : z.text ≤ most_text_words
-      sizing_text = rw Z.holds (text_low C (k - 1) (omega (arith, h)))
+    pub sizing_stores : z.stores ≤ most_store_words
+    sizing_stores = rw e (omega (arith, stores_small C (k - 1) (omega (arith, h)), C.whole.many, h))
 
-      pub sizing_stores : z.stores ≤ most_store_words
-      sizing_stores = rw Z.holds (omega (arith, stores_small C (k - 1) (omega (arith, h)), C.whole.many, h))
+    module _ (l : 1 ≤ k) {s : SeqStep} (w : s ≡ step_of W a k) where
+      pub sizing_registers : step_registers s ≤ 65536
+      sizing_registers = rw w (omega (arith, registers_of_a_step C k h, later_registers W a k l))
 
-      module _ {s : SeqStep} (w : s ≡ step_of W a k) where
-        pub sizing_registers : step_registers s ≤ 65536
-        sizing_registers = rw w (omega (arith, registers_of_a_step C k h, later_registers W a k Z.later))
-
-        pub sizing_on : {y : Size} → y ≡ step_size g s z → Sizing W a g y (k + 1)
-        unfolding size_up_to_step
-        sizing_on {y} q = record {
-          later = omega arith;
-          turn = omega (arith, h);
-          guard = Z.guard;
-          holds =
-              let m : k + 1 - 1 ≡ suc (k - 1) = omega (arith, Z.later) in
-              let n : suc (k - 1) ≡ k = omega (arith, Z.later) in
-              q ∙ ap₂ (λ (x : ℕ) (v : Size). step_size x s v) Z.guard Z.holds
-              ∙ rw (m, n, w) refl;
-        }
-
-    pub sizing_ends : a.steps ≤ k → z ≡ size_up_to_step W a (a.steps - 1)
-    sizing_ends h = let e : k ≡ a.steps = omega (arith, h, Z.turn) in Z.holds ∙ ap (λ (m : ℕ). size_up_to_step W a (m - 1)) e
+      pub sizing_on : {y : Size} → y ≡ step_size (a.end - a.guard) s z → y ≡ size_up_to_step W a (k + 1 - 1)
+      unfolding size_up_to_step
+      sizing_on q =
+          let m : k + 1 - 1 ≡ suc (k - 1) = omega arith in
+          let n : suc (k - 1) ≡ k = omega arith in
+          q ∙ ap₂ (λ (x : ℕ) (v : Size). step_size x s v) guard_words e ∙ rw (m, n, w) refl

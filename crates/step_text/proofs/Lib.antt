@@ -1,3 +1,4 @@
 pub mod Laws
 pub mod StepParts
 pub mod Bridge
+pub mod Parts

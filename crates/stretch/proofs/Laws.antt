@@ -1,94 +1,107 @@
 -- Assignments of a listing: what the searching loops know at each place, and what the reader's walk from assignment to
 -- assignment finds. The laws of a loop stand as the code meets them. They assume nothing.
 use mathlib.Core.Path.{◌≡◌, refl, sym, ap, subst, ◌∙◌}
-use mathlib.Core.Bool.{Bool, true, false, not}
+use mathlib.Core.Bool.{Bool, true, false, not, cond}
 use mathlib.Core.List.{List, [], ◌∷◌, ◌++◌, append_assoc}
-use Prim.Native.Nat.{ℕ, suc, ◌+◌, ◌-◌, ◌<◌, ◌≤◌}
+use Prim.Native.Nat.{ℕ, suc, ◌+◌, ◌-◌, ◌<◌, ◌≤◌, max}
+use native.Mathlib.Decide.{dec_le}
 use native.Mathlib.Omega.{arith}
 use lib.Dec.{T, eqb, ltb}
 use lib.ListN.{length, get_or, take, drop, length-take, length-drop, drop_of_length-le}
-use lib.Seq.{drop-drop}
+use lib.Seq.{drop-drop, get_or-drop}
 use borrow.Author.Tests.{lt-ltb, ltb-true, ltb-false}
 use Rattle.words.specs.Choice.{pick, pick_true, pick_false, pick_case}
-use Rattle.words.proofs.Laws.{drop_here}
 use Rattle.words.proofs.Taken.{second_holds}
 use Rattle.meaning.specs.Listing.{is_store, argument}
-use Rattle.meaning.specs.Check.{check, stretch_from, stretch_if, stretch}
-use Rattle.meaning.specs.declared.Checked.{Checked}
-use Rattle.meaning.specs.declared.Checked.TheVariants.{Described, Faulty}
+use Rattle.meaning.specs.Check.{stretch_from}
+use Rattle.std.proofs.Common.{Option, Some, None, Bor}
+use Rattle.std.specs.Option.{unwrap_or}
+use Rattle.std.specs.Slice.{IsGetRangeResult}
+use Rattle.std.specs.List.{position, position_or_len}
 use Rattle.stretch.specs.Assignment.{assignment, drives, assignment_at, another_at}
 
 -- A test does not come out both ways.
 pub never : {A : Type 0} → true ≡ false → A
 never e = absurd (subst T e tt)
 
--- A negated test, as the choice that `another_at` makes.
-not_is_choice : (b : Bool) → not b ≡ pick b false true
-unfolding pick
-not_is_choice true = refl
-not_is_choice false = refl
+-- What is known of words whose first store is looked for at the place k: it tells whether their assignment is of a register, and ends it.
+record Sought (ws : List ℕ) (k : ℕ) : Type 0 where
+  found : k < length ws → ((r : ℕ) → drives ws r ≡ eqb (argument (get_or ws k 0)) r) × (length (assignment ws) ≡ k + 1)
+  missing : length ws ≤ k → ((r : ℕ) → drives ws r ≡ false) × (length (assignment ws) ≡ length ws)
 
--- The loop of `another_at` at the place here: no store was passed yet.
-pub record Seeking (listing : List ℕ) (place r here : ℕ) : Type 0 where
-  pub order : place ≤ here
-  pub rest : drives (drop place listing) r ≡ drives (drop here listing) r
+-- A word more in front: it is a store, or the search goes on behind it.
+sought_here : (w : ℕ) (ws : List ℕ) (k : ℕ) → Sought ws k → (b : Bool) → is_store w ≡ b → Sought (w ∷ ws) (cond (not b) (1 + k) 0)
+unfolding drives assignment
+sought_here w ws k g true e = record {
+  found = λ _. ((λ (r : ℕ). pick_true _ _ e), rw (pick_true [] (assignment ws) e) refl);
+  missing = λ h. absurd (omega arith);
+}
+sought_here w ws k g false e =
+    let next : 1 + k ≡ suc k = omega arith in
+    record {
+      found = λ h.
+          let f = g.found (omega arith) in ((λ (r : ℕ). pick_false _ _ e ∙ f.0 r ∙ rw next refl), rw (pick_false [] (assignment ws) e) (omega (arith, f.1)));
+      missing = λ h. let f = g.missing (omega arith) in ((λ (r : ℕ). pick_false _ _ e ∙ f.0 r), rw (pick_false [] (assignment ws) e) (omega (arith, f.1)));
+    }
 
--- Nothing is passed yet.
-pub seeking_begins : (listing : List ℕ) (place r : ℕ) → Seeking listing place r place
-seeking_begins listing place r = record { order = omega arith; rest = refl }
+sought : (ws : List ℕ) → Sought ws (position_or_len is_store ws)
+unfolding drives assignment
+sought [] = record { found = λ h. absurd (omega arith); missing = λ _. ((λ (r : ℕ). refl), refl) }
+sought (w ∷ ws) = sought_here w ws (position_or_len is_store ws) (sought ws) (is_store w) refl
 
-module _ {listing : List ℕ} {place r here : ℕ} (g : Seeking listing place r here) where
-  -- The word at the place decides, if it is a store.
-  seeking_opened : here < length listing
-      → drives (drop place listing) r ≡ pick (is_store (get_or listing here 0)) (eqb (argument (get_or listing here 0)) r) (drives (drop (here + 1) listing) r)
-  unfolding drives
-  seeking_opened h = g.rest ∙ rw (drop_here listing here h) refl
+-- What a search by position gave.
+position_there : (b : Bool) {p k : ℕ} → cond b (Some p) None ≡ Some k → (b ≡ true) × (p ≡ k)
+position_there true e = (refl, (cc))
+position_there false e = absurd (let z : ◌≡◌ {A = ℕ} 0 1 = cc in omega arith)
 
-  -- A word that is no store is passed.
-  pub seeking_on : {b : Bool} → here < length listing → b ≡ is_store (get_or listing here 0) → b ≡ false → Seeking listing place r (here + 1)
-  seeking_on h b e = record { order = omega (arith, g.order); rest = seeking_opened h ∙ pick_false _ _ (sym b ∙ e) }
+position_missing : (b : Bool) (p : ℕ) → cond b (Some p) None ≡ None → b ≡ false
+position_missing true p e = absurd (let z : ◌≡◌ {A = ℕ} 0 1 = cc in omega arith)
+position_missing false p e = refl
 
-  -- A store gives the answer.
-  pub seeking_found : {b : Bool} → here < length listing → b ≡ is_store (get_or listing here 0) → b ≡ true
-      → not (eqb (argument (get_or listing here 0)) r) ≡ another_at listing place r
-  unfolding another_at
-  seeking_found h b e =
-      let inside : place < length listing = omega (arith, g.order) in
-      rw (seeking_opened h, pick_true (eqb (argument (get_or listing here 0)) r) (drives (drop (here + 1) listing) r) (sym b ∙ e), lt-ltb _ _ inside) (not_is_choice _)
+-- The first store from the place on stands there.
+module _ {o : Option ℕ} {k : ℕ} (listing : List ℕ) (place : ℕ) (e : o ≡ position is_store (drop place listing)) (q : o ≡ Some k) where
+  there : (ltb (position_or_len is_store (drop place listing)) (length (drop place listing)) ≡ true) × (position_or_len is_store (drop place listing) ≡ k)
+  there = position_there _ (sym e ∙ q)
 
-  -- No store stands there, so only whether a word does is left.
-  pub seeking_ends : length listing ≤ here → ltb place (length listing) ≡ another_at listing place r
-  unfolding another_at drives
-  seeking_ends h = sym (rw (g.rest, drop_of_length-le listing h) (pick_false _ _ refl))
+  inside : k < length (drop place listing)
+  inside = omega (arith, ltb-true _ _ there.0, there.1)
 
--- The loop of `assignment_end` at the place here: what is left of the assignment begins here.
-pub record Passing (listing : List ℕ) (place here : ℕ) : Type 0 where
-  pub rest : place + length (assignment_at listing place) ≡ here + length (assignment_at listing here)
+  known : ((r : ℕ) → drives (drop place listing) r ≡ eqb (argument (get_or (drop place listing) k 0)) r) × (length (assignment (drop place listing)) ≡ k + 1)
+  known = (rw there.1 at (sought (drop place listing))).found inside
 
--- Nothing is passed yet.
-pub passing_begins : (listing : List ℕ) (place : ℕ) → Passing listing place place
-passing_begins listing place = record { rest = refl }
+  -- Its word lies within the listing.
+  pub store_inside : place + k < length listing
+  store_inside = omega (arith, inside, length-drop place listing)
 
-module _ {listing : List ℕ} {place here : ℕ} (g : Passing listing place here) where
-  -- The word at the place ends the assignment, if it is a store.
-  passing_opened : here < length listing
-      → place + length (assignment_at listing place) ≡ here + suc (length (pick (is_store (get_or listing here 0)) [] (assignment (drop (here + 1) listing))))
-  unfolding assignment_at assignment
-  passing_opened h = g.rest ∙ rw (drop_here listing here h) refl
+  -- It answers `another_at`.
+  pub another_found : (r : ℕ) → not (eqb (argument (get_or listing (place + k) 0)) r) ≡ another_at listing place r
+  unfolding another_at pick
+  another_found r =
+      rw (known.0 r, get_or-drop place listing k 0, lt-ltb place (length listing) (omega (arith, store_inside))) (not_is_choice (eqb (argument (get_or listing (place + k) 0)) r))
+    where
+      not_is_choice : (b : Bool) → not b ≡ pick b false true
+      not_is_choice true = refl
+      not_is_choice false = refl
 
-  -- A word that is no store is passed.
-  pub passing_on : {b : Bool} → here < length listing → b ≡ is_store (get_or listing here 0) → b ≡ false → Passing listing place (here + 1)
+  -- Behind it the assignment is over.
+  pub assignment_stops : place + k + 1 ≡ place + length (assignment_at listing place)
   unfolding assignment_at
-  passing_on h b e = record { rest = passing_opened h ∙ rw (pick_false [] (assignment (drop (here + 1) listing)) (sym b ∙ e)) (omega arith) }
+  assignment_stops = omega (arith, known.1)
 
-  -- Behind a store the assignment is over.
-  pub passing_stops : {b : Bool} → here < length listing → b ≡ is_store (get_or listing here 0) → b ≡ true → here + 1 ≡ place + length (assignment_at listing place)
-  passing_stops h b e = sym (passing_opened h ∙ rw (pick_true [] (assignment (drop (here + 1) listing)) (sym b ∙ e)) (omega arith))
+-- No store stands from the place on.
+module _ {o : Option ℕ} (listing : List ℕ) (place : ℕ) (e : o ≡ position is_store (drop place listing)) (q : o ≡ None) where
+  past : length (drop place listing) ≤ position_or_len is_store (drop place listing)
+  past = ltb-false _ _ (position_missing _ _ (sym e ∙ q))
 
-  -- Where the listing ends the assignment is over too.
-  pub passing_ends : length listing ≤ here → here ≡ place + length (assignment_at listing place)
-  unfolding assignment_at assignment
-  passing_ends h = sym (g.rest ∙ rw (drop_of_length-le listing h) (omega arith))
+  -- Only whether a word stands there is left.
+  pub another_unfound : (r : ℕ) → ltb place (length listing) ≡ another_at listing place r
+  unfolding another_at
+  another_unfound r = sym (pick_false _ _ (((sought (drop place listing)).missing past).0 r))
+
+  -- The assignment runs to the listing's end.
+  pub assignment_runs_out : {end : ℕ} → end ≡ max place (length listing) → end ≡ place + length (assignment_at listing place)
+  unfolding assignment_at
+  assignment_runs_out m = omega (arith, ((sought (drop place listing)).missing past).1, length-drop place listing)
 
 -- An assignment is the front of the words that it is taken from.
 assignment_is_front : (ws : List ℕ) → take (length (assignment ws)) ws ≡ assignment ws
@@ -101,20 +114,18 @@ assignment_is_front (w ∷ ws) =
 assignment_is_no_longer : (ws : List ℕ) → length (assignment ws) ≤ length ws
 assignment_is_no_longer ws = omega (arith, ap length (assignment_is_front ws), length-take (length (assignment ws)) ws)
 
--- An end past the listing's own comes from a place past it, where no word stands.
-pub nothing_past : (listing : List ℕ) (place : ℕ) {end : ℕ} → end ≡ place + length (assignment_at listing place) → length listing < end → [] ≡ assignment_at listing place
+-- The part up to the end is the assignment; there is no such part where the place is past the listing's own end, and no word stands.
+pub part_is_assignment : (listing : List ℕ) (place : ℕ) {end : ℕ} (part : Option (Bor (List ℕ))) (none : Bor (List ℕ)) → end ≡ place + length (assignment_at listing place)
+    → IsGetRangeResult listing place end part → none.now ≡ [] → (unwrap_or part none).now ≡ assignment_at listing place
 unfolding assignment_at assignment
-nothing_past listing place e h =
-    let k : length listing ≤ place = omega (arith, assignment_is_no_longer (drop place listing), length-drop place listing) in
-    rw (drop_of_length-le listing k) refl
-
--- The part up to the end is the assignment.
-pub part_is_assignment : (listing : List ℕ) (place : ℕ) {end : ℕ} → end ≡ place + length (assignment_at listing place)
-    → take (end - place) (drop place listing) ≡ assignment_at listing place
-unfolding assignment_at
-part_is_assignment listing place {end} e =
+part_is_assignment listing place {end} (Some part) none e h z =
     let k : end - place ≡ length (assignment (drop place listing)) = omega arith in
-    rw k (assignment_is_front (drop place listing))
+    h.0.2 ∙ rw k (assignment_is_front (drop place listing))
+part_is_assignment listing place {end} None none e h z =
+    elim (dec_le (length listing) place) [
+      | yes m ↦ rw (z, drop_of_length-le listing m) refl
+      | no m ↦ absurd (let inside : end ≤ length listing = omega (arith, assignment_is_no_longer (drop place listing), length-drop place listing) in never (sym (h.1 (omega arith, inside))))
+    ]
 
 -- `driven` and `not_driven`, below, by what the first word is: a store or not, and of r or not.
 driven_by : (w : ℕ) (since fresh behind : List ℕ) {more : List ℕ} {later : Bool} (store same : Bool)
@@ -195,13 +206,3 @@ module _ {listing : List ℕ} {r at : ℕ} (g : Walking listing r at) where
       test_fails (drives (drop at listing) r) (ltb at (length listing)) e
       (λ d. sym (g.rest ∙ driven (drop at listing) [] r d))
       (λ l. sym (g.rest ∙ rw (drop_of_length-le listing (ltb-false _ _ l)) refl))
-
--- In a listing as described, what drives the register is its stretch.
-pub stretch_described : (listing : List ℕ) (r : ℕ) {c : Checked} {part : List ℕ} → c ≡ check listing → c ≡ Described → part ≡ stretch_from [] listing r → part ≡ stretch listing r
-unfolding stretch stretch_if
-stretch_described listing r e d p = rw (← e, d) p
-
--- In a faulty listing the stretch is empty.
-pub stretch_faulty : (listing : List ℕ) (r : ℕ) {c : Checked} {place : ℕ} → c ≡ check listing → c ≡ Faulty place → [] ≡ stretch listing r
-unfolding stretch stretch_if
-stretch_faulty listing r e f = rw (← e, f) refl

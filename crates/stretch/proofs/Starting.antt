@@ -3,20 +3,21 @@
 use mathlib.Core.Path.{◌≡◌, refl, sym, ap, ◌∙◌}
 use mathlib.Core.Bool.{Bool, true, false}
 use mathlib.Core.List.{List, [], ◌∷◌, ◌++◌, append_assoc}
-use Prim.Native.Nat.{ℕ, suc, ◌+◌, ◌-◌, ◌<◌, ◌≤◌}
+use Prim.Native.Nat.{ℕ, suc, ◌+◌, ◌-◌, ◌<◌}
 use native.Mathlib.Omega.{arith}
+use native.Mathlib.Decide.{dec_le}
 use lib.Dec.{eqb, ltb}
 use lib.ListN.{length, take, drop, length-append, drop_of_length-le}
 use lib.Seq.{drop-drop, take-append_seam, drop-append_seam}
-use borrow.Author.Tests.{ltb-false}
-use Rattle.words.specs.Choice.{pick}
+use borrow.Author.Tests.{ltb-false, lt-ltb, le-ltb}
+use Rattle.words.specs.Choice.{pick, pick_true, pick_false}
 use Rattle.meaning.specs.Listing.{is_store, argument}
 use Rattle.meaning.specs.Check.{check, stretch_from, stretch_if, stretch}
-use Rattle.meaning.specs.declared.Checked.{Checked}
-use Rattle.meaning.specs.declared.Checked.TheVariants.{Described, Faulty}
+use Rattle.std.proofs.Common.{Result, Ok, Err}
+use Rattle.meaning.specs.declared.refusal.Fault.{Fault}
 use Rattle.stretch.specs.Assignment.{assignment, drives, assignment_at, another_at}
 use Rattle.stretch.specs.Start.{start_from, start_if, stretch_start}
-use Rattle.stretch.proofs.Laws.{never, test_fails, Walking, walking_begins, passed, walking_on, walking_nearer}
+use Rattle.stretch.proofs.Laws.{never, test_fails, Walking, passed, walking_on, walking_nearer}
 
 -- `started` and `not_started`, below, by what the first word is: a store or not, and of r or not.
 started_by : {since more : ℕ} (fresh : ℕ) {later : Bool} (store same : Bool)
@@ -54,49 +55,35 @@ pub record Starting (listing : List ℕ) (r here : ℕ) : Type 0 where
   pub walking : Walking listing r here
   pub rest : start_from 0 0 listing r ≡ start_from here here (drop here listing) r
 
--- Nothing is passed yet.
-pub starting_begins : (listing : List ℕ) (r : ℕ) → Starting listing r 0
-starting_begins listing r = record { walking = walking_begins listing r; rest = refl }
-
 module _ {listing : List ℕ} {r here : ℕ} (g : Starting listing r here) where
   -- An assignment of another register is passed.
-  pub starting_on : {b : Bool} {end : ℕ} → b ≡ another_at listing here r → b ≡ true → end ≡ here + length (assignment_at listing here) → Starting listing r end
+  pub starting_on : {end : ℕ} → another_at listing here r ≡ true → end ≡ here + length (assignment_at listing here) → Starting listing r end
   unfolding assignment_at
-  starting_on b e k = rw k (record {
-    walking = walking_on g.walking (sym b ∙ e);
+  starting_on e k = rw k (record {
+    walking = walking_on g.walking e;
     rest =
-        g.rest ∙ not_started (drop here listing) here here r (passed g.walking (sym b ∙ e)).0
+        g.rest ∙ not_started (drop here listing) here here r (passed g.walking e).0
         ∙ ap (λ (ws : List ℕ). start_from (here + length (assignment (drop here listing))) (here + length (assignment (drop here listing))) ws r)
         (drop-drop (length (assignment (drop here listing))) here listing);
   })
 
   -- Behind the assignment the walk has fewer words left.
-  pub starting_nearer : {b : Bool} {end : ℕ} → b ≡ another_at listing here r → b ≡ true → end ≡ here + length (assignment_at listing here)
+  pub starting_nearer : {end : ℕ} → another_at listing here r ≡ true → end ≡ here + length (assignment_at listing here)
       → length listing - end < length listing - here
-  starting_nearer b e k = rw k (walking_nearer g.walking (sym b ∙ e))
+  starting_nearer e k = rw k (walking_nearer g.walking e)
 
-  -- The walk stops before the listing's end, where the register's assignment begins.
-  pub starting_found : {b : Bool} → b ≡ another_at listing here r → b ≡ false → here < length listing → here ≡ start_from 0 0 listing r
-  unfolding another_at
-  starting_found b e h =
-      test_fails (drives (drop here listing) r) (ltb here (length listing)) (sym b ∙ e)
-      (λ d. sym (g.rest ∙ started (drop here listing) here here r d))
-      (λ l. absurd (omega (arith, ltb-false here (length listing) l)))
-
-  -- The walk stops at the listing's end, where no assignment of the register was found.
-  pub starting_ends : length listing ≤ here → 0 ≡ start_from 0 0 listing r
-  unfolding start_from
-  starting_ends h = sym (g.rest ∙ rw (drop_of_length-le listing h) refl)
-
--- In a listing as described the start is where the walk finds it.
-pub start_described : (listing : List ℕ) (r : ℕ) {c : Checked} {place : ℕ} → c ≡ check listing → c ≡ Described → place ≡ start_from 0 0 listing r → place ≡ stretch_start listing r
-unfolding stretch_start start_if
-start_described listing r e d p = rw (← e, d) p
-
--- In a faulty listing the start is 0.
-pub start_faulty : (listing : List ℕ) (r : ℕ) {c : Checked} {place : ℕ} → c ≡ check listing → c ≡ Faulty place → 0 ≡ stretch_start listing r
-unfolding stretch_start start_if
-start_faulty listing r e f = rw (← e, f) refl
+  -- The walk stops where the register's assignment begins, or at the listing's end, where none was found.
+  pub starting_ends : another_at listing here r ≡ false → pick (ltb here (length listing)) here 0 ≡ start_from 0 0 listing r
+  unfolding another_at start_from
+  starting_ends e =
+      elim (dec_le (length listing) here) [
+        | yes m ↦ pick_false _ _ (le-ltb here (length listing) m) ∙ sym (g.rest ∙ rw (drop_of_length-le listing m) refl)
+        | no m ↦
+            pick_true _ _ (lt-ltb here (length listing) (omega arith))
+            ∙ test_fails (drives (drop here listing) r) (ltb here (length listing)) e
+            (λ d. sym (g.rest ∙ started (drop here listing) here here r d))
+            (λ l. absurd (omega (arith, ltb-false here (length listing) l)))
+      ]
 
 -- The part of so many words stands in the listing at the place.
 abbrev StandsAt : List ℕ → ℕ → List ℕ → Type 0
@@ -130,6 +117,6 @@ pub the_stretch_stands_at_its_start : (listing : List ℕ) (r : ℕ) → take (l
 unfolding stretch stretch_if stretch_start start_if
 the_stretch_stands_at_its_start listing r = by_check (check listing)
   where
-    by_check : (c : Checked) → StandsAt listing (start_if c listing r) (stretch_if c listing r)
-    by_check Described = stands_from listing [] [] listing 0 0 r refl refl refl
-    by_check (Faulty place) = refl
+    by_check : (c : Result (Unit {0}) Fault) → StandsAt listing (start_if c listing r) (stretch_if c listing r)
+    by_check (Ok _) = stands_from listing [] [] listing 0 0 r refl refl refl
+    by_check (Err _) = refl

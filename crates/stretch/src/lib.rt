@@ -8,39 +8,41 @@
 // `start` is for a caller who cannot be handed a part, and takes its place.
 #![tactic(auto)]
 
-ghost use Rattle.std.specs.Prelude.{◌≡◌, [], ◌+◌, length};
+ghost use Rattle.std.specs.Prelude.{◌≡◌, [], ◌+◌, length, drop, position, ltb};
+ghost use Rattle.words.specs.Choice.{pick};
+ghost use Rattle.meaning.specs.Listing.{is_store};
 ghost use Rattle.meaning.specs.Check.{stretch as stretch_of, stretch_from};
 ghost use Rattle.stretch.specs.Assignment.{assignment_at, another_at};
 ghost use Rattle.stretch.specs.Start.{start_from, stretch_start};
+
+// How many words from the place on stand before the first store.
+fn before_store(listing: &[u32], place: usize) -> Option<usize>
+    ensures { result ≡ position is_store (drop place listing.now) }
+{
+    listing
+        .iter()
+        .skip(place)
+        .position(|w| listing::is_store(*w))
+}
 
 // Whether a word stands at the place, and the assignment that begins there does not drive the register.
 fn another_at(listing: &[u32], place: usize, register: u32) -> bool
     ensures { result ≡ another_at listing.now place register }
 {
-    let mut here = place;
-    while here < listing.len() {
-        let word = listing[here];
-        if listing::is_store(word) {
-            return word % meaning::operation::UNIT != register;
-        }
-        here += 1;
+    match before_store(listing, place) {
+        Some(words) => listing[place + words] % meaning::operation::UNIT != register,
+        None => place < listing.len(),
     }
-    place < listing.len()
 }
 
 // The place behind the assignment that begins at the place.
 fn assignment_end(listing: &[u32], place: usize) -> usize
     ensures { result ≡ place + length (assignment_at listing.now place) }
 {
-    let mut here = place;
-    while here < listing.len() {
-        let next = here + 1;
-        if listing::is_store(listing[here]) {
-            return next;
-        }
-        here = next;
+    match before_store(listing, place) {
+        Some(words) => place + words + 1,
+        None => place.max(listing.len()),
     }
-    here
 }
 
 // The assignment that begins at the place: a part of the listing.
@@ -48,10 +50,7 @@ fn assignment_at(listing: &[u32], place: usize) -> &[u32]
     ensures { result.now ≡ assignment_at listing.now place }
 {
     let end = assignment_end(listing, place);
-    if listing.len() < end {
-        return &listing[..0];
-    }
-    &listing[place..end]
+    listing.get(place..end).unwrap_or(&[])
 }
 
 // A listing and a position in it.
@@ -94,48 +93,39 @@ impl<'a> Reader<'a> {
     }
 }
 
-// The words that drive the register, in a listing that is as described.
-fn driving(listing: &[u32], register: u32) -> &[u32]
-    ensures { result.now ≡ stretch_from [] listing.now register }
+// A reader at the assignment that drives the register, in a listing that is as described; at the listing's end where none does.
+fn driving<'a>(listing: &'a [u32], register: u32) -> Reader<'a>
+    ensures same { result.listing.now ≡ listing.now }
+    ensures part { assignment_at listing.now result.at ≡ stretch_from [] listing.now register }
+    ensures start { pick (ltb result.at (length listing.now)) result.at 0 ≡ start_from 0 0 listing.now register }
 {
     let mut reader = Reader::new(listing);
     while reader.at_another(register) {
         reader = reader.next();
     }
-    reader.assignment()
+    reader
 }
 
 // The words that drive the register, the store included: a part of the caller's own listing. An empty part if the listing
 // is not as described, or has no such register.
+#[tactic(auto, unfolding(meaning::specs::Check::stretch, meaning::specs::Check::stretch_if))]
 pub fn stretch(listing: &[u32], register: u32) -> &[u32]
     ensures { result.now ≡ stretch_of listing.now register }
 {
-    let meaning::Checked::Described = listing::checked(listing) else {
-        return &listing[..0];
-    };
-    driving(listing, register)
-}
-
-// The place where the assignment of the register begins, in a listing that is as described; 0 if none does.
-fn driving_start(listing: &[u32], register: u32) -> usize
-    ensures { result ≡ start_from 0 0 listing.now register }
-{
-    let mut here = 0;
-    while another_at(listing, here, register) {
-        here = assignment_end(listing, here);
+    if listing::checked(listing).is_err() {
+        return &[];
     }
-    if here < listing.len() {
-        return here;
-    }
-    0
+    driving(listing, register).assignment()
 }
 
 // The place of the first word that drives the register; 0 where `stretch` is empty.
+#[tactic(auto, unfolding(crate::specs::Start::stretch_start, crate::specs::Start::start_if, words::specs::Choice::pick))]
 pub fn start(listing: &[u32], register: u32) -> usize
     ensures { result ≡ stretch_start listing.now register }
 {
-    let meaning::Checked::Described = listing::checked(listing) else {
+    if listing::checked(listing).is_err() {
         return 0;
-    };
-    driving_start(listing, register)
+    }
+    let start = driving(listing, register).at;
+    if start < listing.len() { start } else { 0 }
 }

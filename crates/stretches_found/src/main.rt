@@ -86,18 +86,16 @@ const OUT_OF_ORDER: [u32; 6] = [
 
 fn show_word(word: u32) {
     io::write_all(1, b" ");
-    io::print_hex(1, word as u64, 8);
+    io::print_hex(1, u64::from(word), 8);
 }
 
 // One line: the register and the words that drive it.
 fn show(listing: &[u32], register: u32) {
     let part = stretch::stretch(listing, register);
-    io::print_decimal(1, register as u64);
+    io::print_decimal(1, u64::from(register));
     io::write_all(1, b" =");
-    let mut i = 0;
-    while i < part.len() {
-        show_word(part[i]);
-        i += 1;
+    for &word in part {
+        show_word(word);
     }
     io::write_all(1, b"\n");
 }
@@ -105,10 +103,8 @@ fn show(listing: &[u32], register: u32) {
 // A title, and a line for each register below the count.
 fn show_all(title: &[u8], listing: &[u32], count: u32) {
     io::write_all(1, title);
-    let mut register = 0;
-    while register < count {
+    for register in 0..count {
         show(listing, register);
-        register += 1;
     }
 }
 

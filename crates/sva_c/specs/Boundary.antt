@@ -3,42 +3,40 @@
 -- 1, 8 and 2, and the place is 0. With 7 words of output the number is 14, and the counts and the place are 0.
 -- Each field is an equation of a result, or of what lent memory holds after the call, to the definitions of `meaning`; of the matcher's answers
 -- it is `Holds`, which says of each byte what it is.
-use Rattle.std.specs.Prelude.{◌≡◌, List, ℕ, length, replicate}
+use Rattle.std.specs.Prelude.{◌≡◌, Result, Ok, Err, List, ℕ, length, replicate}
 use Rattle.meaning.specs.Check.{stretch}
 use Rattle.meaning.specs.Lower.{lower, output_after}
 use Rattle.meaning.specs.Tick.{tick, next_after, stack_left}
-use Rattle.meaning.specs.declared.Lowered.{Lowered}
-use Rattle.meaning.specs.declared.Lowered.TheVariants.{Listing, Refused}
-use Rattle.meaning.specs.declared.Ticked.{Ticked}
-use Rattle.meaning.specs.declared.Ticked.TheVariants.{Match, Refused as NotTicked}
 use Rattle.stretch.specs.Start.{stretch_start}
 use Rattle.recording.specs.Refusals.{judged}
-use Rattle.recording.specs.declared.Matched.{Matched}
-use Rattle.recording.specs.declared.Matched.TheVariants.{Ticks, Refused as NotMatched}
 use Rattle.matches.specs.Answers.{Holds}
+use Rattle.meaning.specs.Answers.{number, place, tick_number, tick_place}
+use Rattle.meaning.specs.declared.Listing.{Listing}
+use Rattle.meaning.specs.declared.refusal.Refusal.{Refusal}
+use Rattle.meaning.specs.declared.refusal.TickRefusal.{TickRefusal}
 
 -- The number of a lowering: 0, or the refusal's.
-unfoldable pub lowered_number : Lowered → ℕ
-lowered_number (Listing registers words deepest) = 0
-lowered_number (Refused number place) = number
+unfoldable pub lowered_number : Result Listing Refusal → ℕ
+lowered_number (Ok listing) = 0
+lowered_number (Err refusal) = number refusal
 
 -- Its registers, its words and its deepest stack; zero on a refusal.
-unfoldable pub lowered_registers : Lowered → ℕ
-lowered_registers (Listing registers words deepest) = registers
-lowered_registers (Refused number place) = 0
+unfoldable pub lowered_registers : Result Listing Refusal → ℕ
+lowered_registers (Ok listing) = listing.registers
+lowered_registers (Err refusal) = 0
 
-unfoldable pub lowered_words : Lowered → ℕ
-lowered_words (Listing registers words deepest) = words
-lowered_words (Refused number place) = 0
+unfoldable pub lowered_words : Result Listing Refusal → ℕ
+lowered_words (Ok listing) = listing.words
+lowered_words (Err refusal) = 0
 
-unfoldable pub lowered_deepest : Lowered → ℕ
-lowered_deepest (Listing registers words deepest) = deepest
-lowered_deepest (Refused number place) = 0
+unfoldable pub lowered_deepest : Result Listing Refusal → ℕ
+lowered_deepest (Ok listing) = listing.deepest
+lowered_deepest (Err refusal) = 0
 
 -- The refusal's place; zero for a listing.
-unfoldable pub lowered_place : Lowered → ℕ
-lowered_place (Listing registers words deepest) = 0
-lowered_place (Refused number place) = place
+unfoldable pub lowered_place : Result Listing Refusal → ℕ
+lowered_place (Ok listing) = 0
+lowered_place (Err refusal) = place refusal
 
 -- What `sva_lower` returns and leaves.
 pub record LowersForC (tree work out : List ℕ) (number : ℕ) (work_after out_after : List ℕ) (registers words deepest place : ℕ) : Type 0 where
@@ -51,19 +49,19 @@ pub record LowersForC (tree work out : List ℕ) (number : ℕ) (work_after out_
   pub place_is : place ≡ lowered_place (lower tree (length work) (length out) 0)
 
 -- The number of a tick: 0, or the refusal's.
-unfoldable pub ticked_number : Ticked → ℕ
-ticked_number (Match bit) = 0
-ticked_number (NotTicked number place) = number
+unfoldable pub ticked_number : Result ℕ TickRefusal → ℕ
+ticked_number (Ok bit) = 0
+ticked_number (Err refusal) = tick_number refusal
 
 -- The match bit; what was held before, on a refusal.
-unfoldable pub match_after : Ticked → ℕ → ℕ
-match_after (Match bit) held = bit
-match_after (NotTicked number place) held = held
+unfoldable pub match_after : Result ℕ TickRefusal → ℕ → ℕ
+match_after (Ok bit) held = bit
+match_after (Err refusal) held = held
 
 -- The refusal's place; zero for a match bit.
-unfoldable pub ticked_place : Ticked → ℕ
-ticked_place (Match bit) = 0
-ticked_place (NotTicked number place) = place
+unfoldable pub ticked_place : Result ℕ TickRefusal → ℕ
+ticked_place (Ok bit) = 0
+ticked_place (Err refusal) = tick_place refusal
 
 -- What `sva_tick` returns and leaves.
 pub record TicksForC (listing cur atoms next stack : List ℕ) (held number : ℕ) (next_held stack_held : List ℕ) (match place : ℕ) : Type 0 where
@@ -79,19 +77,19 @@ pub record StretchesForC (listing : List ℕ) (register size start : ℕ) : Type
   pub start_is : start ≡ stretch_start listing register
 
 -- The number of a matcher's answer: 0, or the refusal's.
-unfoldable pub matched_number : Matched → ℕ
-matched_number (Ticks ticks) = 0
-matched_number (NotMatched number place) = number
+unfoldable pub matched_number : Result ℕ Refusal → ℕ
+matched_number (Ok ticks) = 0
+matched_number (Err refusal) = number refusal
 
 -- Its ticks; zero on a refusal.
-unfoldable pub matched_ticks : Matched → ℕ
-matched_ticks (Ticks ticks) = ticks
-matched_ticks (NotMatched number place) = 0
+unfoldable pub matched_ticks : Result ℕ Refusal → ℕ
+matched_ticks (Ok ticks) = ticks
+matched_ticks (Err refusal) = 0
 
 -- The refusal's place; zero where ticks were answered.
-unfoldable pub matched_place : Matched → ℕ
-matched_place (Ticks ticks) = 0
-matched_place (NotMatched number place) = place
+unfoldable pub matched_place : Result ℕ Refusal → ℕ
+matched_place (Ok ticks) = 0
+matched_place (Err refusal) = place refusal
 
 -- What `sva_matches` returns and leaves.
 pub record MatchesForC (tree rows : List ℕ) (width : ℕ) (answers work : List ℕ) (number : ℕ) (answers_after work_after : List ℕ) (ticks place : ℕ) : Type 0 where

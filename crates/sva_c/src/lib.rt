@@ -20,21 +20,20 @@ pub fn sva_lower(
 ) -> u32
     ensures { LowersForC tree.now work.old out.old result work.new out.new registers.new words.new deepest.new place.new }
 {
-    let answer = lower::lower(tree, work, out);
-    match answer {
-        meaning::Lowered::Listing(stored, written, reached) => {
-            *registers = stored;
-            *words = written;
-            *deepest = reached;
+    match lower::lower(tree, work, out) {
+        Ok(listing) => {
+            *registers = listing.registers;
+            *words = listing.words;
+            *deepest = listing.deepest;
             *place = 0;
             0
         }
-        meaning::Lowered::Refused(number, at) => {
+        Err(refusal) => {
             *registers = 0;
             *words = 0;
             *deepest = 0;
-            *place = at as usize;
-            number
+            *place = refusal.place() as usize;
+            refusal.number()
         }
     }
 }
@@ -51,16 +50,15 @@ pub fn sva_tick(
 ) -> u32
     ensures { TicksForC listing.now cur.now atoms.now next.old stack.old matched.old result next.new stack.new matched.new place.new }
 {
-    let answer = tick::tick(listing, cur, atoms, next, stack);
-    match answer {
-        meaning::Ticked::Match(bit) => {
+    match tick::tick(listing, cur, atoms, next, stack) {
+        Ok(bit) => {
             *matched = bit;
             *place = 0;
             0
         }
-        meaning::Ticked::Refused(number, at) => {
-            *place = at;
-            number
+        Err(refusal) => {
+            *place = refusal.place();
+            refusal.number()
         }
     }
 }
@@ -70,8 +68,7 @@ pub fn sva_stretch(listing: &[u32], register: u32, start: &mut usize) -> usize
     ensures { StretchesForC listing.now register result start.new }
 {
     *start = stretch::start(listing, register);
-    let part = stretch::stretch(listing, register);
-    part.len()
+    stretch::stretch(listing, register).len()
 }
 
 // Matches a tree over recorded ticks: 0 and the ticks, or a refusal's number and its place.
@@ -86,17 +83,16 @@ pub fn sva_matches(
 ) -> u32
     ensures { MatchesForC tree.now rows.now width answers.old work.old result answers.new work.new ticks.new place.new }
 {
-    let answer = matches::matches(tree, rows, width, answers, work);
-    match answer {
-        recording::Matched::Ticks(judged) => {
+    match matches::matches(tree, rows, width, answers, work) {
+        Ok(judged) => {
             *ticks = judged;
             *place = 0;
             0
         }
-        recording::Matched::Refused(number, at) => {
+        Err(refusal) => {
             *ticks = 0;
-            *place = at as usize;
-            number
+            *place = refusal.place() as usize;
+            refusal.number()
         }
     }
 }

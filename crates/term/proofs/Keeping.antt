@@ -1,4 +1,4 @@
--- What is read of a kept alternative: its guard, none where that is left out; and its steps, which are those whose words were put.
+-- What is read of a kept alternative: its guard, and its steps, which are those whose words were put.
 use mathlib.Core.Path.{◌≡◌, refl, sym, ap, ap₂, ◌∙◌}
 use mathlib.Core.List.{List, [], ◌∷◌, ◌++◌}
 use Prim.Native.Nat.{ℕ, zero, suc, ◌+◌, ◌*◌, ◌-◌, ◌<◌}
@@ -9,21 +9,13 @@ use lib.Seq.{length-take-le, get_or-append-add}
 use Rattle.meaning.specs.declared.SeqStep.{SeqStep}
 use Rattle.term.specs.declared.Kept.{Kept}
 use Rattle.term.specs.Steps.{term_atom, step_words, steps_words, SmallAtoms}
-use Rattle.term.specs.Keeping.{step_of, steps_from, guard_of, without_guard, Stored, Whole}
+use Rattle.term.specs.Keeping.{step_of, steps_from, guard_of, Stored, Whole}
 use Rattle.term.proofs.Round.{length-step_words, same_step, its_own_words}
 
 -- The guard has as many words as it says.
 pub length_of_guard : {W : List ℕ} {a : Kept} → Whole W a → length (guard_of W a) ≡ a.end - a.guard
 unfolding guard_of
 length_of_guard {W} {a} whole = length-take-le (a.end - a.guard) (drop a.guard W) (omega (arith, length-drop a.guard W, whole.ends))
-
--- Without its guard it has no guard, and is otherwise as it was.
-pub no_guard : (W : List ℕ) (a : Kept) → guard_of W (without_guard a) ≡ []
-unfolding guard_of
-no_guard W a = rw (sub_self a.end) refl
-
-pub whole_without_guard : {W : List ℕ} {a : Kept} → Whole W a → Whole W (without_guard a)
-whole_without_guard {W} {a} whole = record { some = whole.some; many = whole.many; inside = whole.inside; order = omega arith; ends = whole.ends; atoms = whole.atoms }
 
 -- Steps are kept where their words stand.
 pub stored_words : (ss : List SeqStep) (W : List ℕ) (a : Kept) (k : ℕ)

@@ -6,7 +6,7 @@ use native.Mathlib.Nat.{add-zero}
 use native.Mathlib.Omega.{arith}
 use lib.ListN.{length, get_or, length-append}
 use Rattle.words.specs.Choice.{pick}
-use Rattle.words.specs.Written.{written, Wrote}
+use Rattle.words.specs.Written.{written}
 use Rattle.words.proofs.Laws.{read_back}
 use Rattle.term.specs.Steps.{term_tag, term_atom, term_count, hop_tag, hop_ticks, term_from, hop_from, step_words, step_at, steps_words}
 use Rattle.meaning.specs.declared.SeqTerm.{SeqTerm}
@@ -37,12 +37,6 @@ pub length_of_steps : (ss : List SeqStep) → length (steps_words ss) ≡ 5 * le
 unfolding steps_words
 length_of_steps [] = omega arith
 length_of_steps (s ∷ ss) = omega (arith, length-append (step_words s) (steps_words ss), length-step_words s, length_of_steps ss)
-
--- A step's five words, as the code has each.
-pub all_five : (s : SeqStep) {o o' : List ℕ} {at next tag atom count hop ticks : ℕ} → tag ≡ term_tag s.term → atom ≡ term_atom s.term → count ≡ term_count s.term
-    → hop ≡ hop_tag s.hop → ticks ≡ hop_ticks s.hop → Wrote o o' at next (tag ∷ atom ∷ count ∷ hop ∷ ticks ∷ []) → Wrote o o' at next (step_words s)
-unfolding step_words
-all_five s e₁ e₂ e₃ e₄ e₅ w = rw (← e₁, ← e₂, ← e₃, ← e₄, ← e₅) w
 
 -- The step that was put is read.
 pub stored_is_read_back : (o : List ℕ) (at : ℕ) (s : SeqStep) → at + 5 ≤ length o → step_at (written o at (step_words s)) at ≡ s

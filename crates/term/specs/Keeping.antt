@@ -22,10 +22,6 @@ steps_of W a = steps_from W a 0 a.steps
 unfoldable pub guard_of : List ℕ → Kept → List ℕ
 guard_of W a = take (a.end - a.guard) (drop a.guard W)
 
--- The alternative without its guard.
-abbrev pub without_guard : Kept → Kept
-without_guard a = record { from = a.from; steps = a.steps; guard = a.end; end = a.end; register = a.register }
-
 -- The steps are kept, the first of them as the k-th.
 abbrev pub Stored : List ℕ → Kept → ℕ → List SeqStep → Type 0
 Stored W a k [] = Unit {0}

@@ -1,13 +1,15 @@
 // An alternative kept in a lent slice: its steps, five words each (the term's tag, atom and count, then the hop's tag and length), then its
-// guard. It is handed on as one thing, `Kept`, with the slice that it stands in.
+// guard. It is handed on as one thing, `Alternative`, with the slice that it stands in.
 //
 // Example: Bool(7) reached by AtLeast(2) is the words 1, 7, 0, 1, 2; `step` reads it back.
 #![tactic(auto)]
 
-ghost use Rattle.std.specs.Prelude.{◌≡◌, ◌+◌, ◌<◌, ◌≤◌, length};
+ghost use Rattle.std.specs.Prelude.{◌≡◌, [], ◌∷◌, ◌+◌, ◌<◌, ◌≤◌, length};
 ghost use Rattle.words.specs.Written.{Wrote};
 ghost use Rattle.term.specs.Steps.{term_tag, term_atom, term_count, hop_tag, hop_ticks, term_from, hop_from, step_words, step_at};
-ghost use Rattle.term.specs.Keeping.{step_of, guard_of, without_guard, Whole};
+ghost use Rattle.term.specs.Keeping.{step_of, guard_of, Whole};
+
+use meaning::{SeqHop, SeqStep, SeqTerm};
 
 // Where an alternative stands in work: its steps begin at `from`, so many of them; its guard, closed by its `and`, stands from `guard` up to
 // `end`; its registers are numbered from `register` on.
@@ -20,144 +22,98 @@ pub struct Kept {
     pub register: u32,
 }
 
-fn term_tag(x: meaning::SeqTerm) -> u32
-    ensures { result ≡ term_tag x }
+// A term as three words: its kind's number, its atom and its count, each 0 where there is none.
+// A kind is a number there, since lent memory holds words alone; `term_from` reads the same numbers.
+fn term_words(x: SeqTerm) -> [u32; 3]
+    ensures { result ≡ term_tag x ∷ term_atom x ∷ term_count x ∷ [] }
 {
     match x {
-        meaning::SeqTerm::Bool(_) => 1,
-        meaning::SeqTerm::Goto(_, _) => 2,
-        meaning::SeqTerm::Nonconsec(_, _) => 3,
-        meaning::SeqTerm::ConsecAtLeast(_, _) => 4,
-        meaning::SeqTerm::Empty => 0,
+        SeqTerm::Empty => [0, 0, 0],
+        SeqTerm::Bool(a) => [1, a, 0],
+        SeqTerm::Goto(b, k) => [2, b, k],
+        SeqTerm::Nonconsec(b, k) => [3, b, k],
+        SeqTerm::ConsecAtLeast(b, k) => [4, b, k],
     }
 }
 
-fn term_atom(x: meaning::SeqTerm) -> u32
-    ensures { result ≡ term_atom x }
+#[tactic(auto, unfolding(crate::specs::Steps::term_from, words::specs::Choice::pick))]
+fn term_from(tag: u32, atom: u32, count: u32) -> SeqTerm
+    ensures { result ≡ term_from tag atom count }
 {
-    match x {
-        meaning::SeqTerm::Bool(a) => a,
-        meaning::SeqTerm::Goto(b, _) => b,
-        meaning::SeqTerm::Nonconsec(b, _) => b,
-        meaning::SeqTerm::ConsecAtLeast(b, _) => b,
-        meaning::SeqTerm::Empty => 0,
+    match tag {
+        1 => SeqTerm::Bool(atom),
+        2 => SeqTerm::Goto(atom, count),
+        3 => SeqTerm::Nonconsec(atom, count),
+        4 => SeqTerm::ConsecAtLeast(atom, count),
+        _ => SeqTerm::Empty,
     }
 }
 
-fn term_count(x: meaning::SeqTerm) -> u32
-    ensures { result ≡ term_count x }
-{
-    match x {
-        meaning::SeqTerm::Bool(_) => 0,
-        meaning::SeqTerm::Goto(_, k) => k,
-        meaning::SeqTerm::Nonconsec(_, k) => k,
-        meaning::SeqTerm::ConsecAtLeast(_, k) => k,
-        meaning::SeqTerm::Empty => 0,
-    }
-}
-
-fn hop_tag(h: meaning::SeqHop) -> u32
-    ensures { result ≡ hop_tag h }
+// A hop as two words: its kind's number and its length. `hop_from` reads the same numbers.
+fn hop_words(h: SeqHop) -> [u32; 2]
+    ensures { result ≡ hop_tag h ∷ hop_ticks h ∷ [] }
 {
     match h {
-        meaning::SeqHop::Fixed(_) => 0,
-        meaning::SeqHop::AtLeast(_) => 1,
+        SeqHop::Fixed(d) => [0, d],
+        SeqHop::AtLeast(m) => [1, m],
     }
 }
 
-fn hop_length(h: meaning::SeqHop) -> u32
-    ensures { result ≡ hop_ticks h }
+#[tactic(auto, unfolding(crate::specs::Steps::hop_from, words::specs::Choice::pick))]
+fn hop_from(tag: u32, length: u32) -> SeqHop
+    ensures { result ≡ hop_from tag length }
 {
-    match h {
-        meaning::SeqHop::Fixed(d) => d,
-        meaning::SeqHop::AtLeast(m) => m,
+    match tag {
+        0 => SeqHop::Fixed(length),
+        _ => SeqHop::AtLeast(length),
     }
 }
 
 // Puts the step's five words from the place on; the next place.
-pub fn store(out: &mut [u32], at: usize, s: meaning::SeqStep) -> usize
+#[tactic(auto, unfolding(crate::specs::Steps::step_words))]
+pub fn store(out: &mut [u32], at: usize, s: SeqStep) -> usize
     requires { at + 5 ≤ length out.old }
     ensures { Wrote out.old out.new at result (step_words s) }
 {
-    let x = s.term;
-    let h = s.hop;
-    words::copied(
-        &[
-            term_tag(x),
-            term_atom(x),
-            term_count(x),
-            hop_tag(h),
-            hop_length(h),
-        ],
-        out,
-        at,
-    )
-}
-
-fn term_from(tag: u32, atom: u32, count: u32) -> meaning::SeqTerm
-    ensures { result ≡ term_from tag atom count }
-{
-    if tag == 1 {
-        return meaning::SeqTerm::Bool(atom);
-    }
-    if tag == 2 {
-        return meaning::SeqTerm::Goto(atom, count);
-    }
-    if tag == 3 {
-        return meaning::SeqTerm::Nonconsec(atom, count);
-    }
-    if tag == 4 {
-        return meaning::SeqTerm::ConsecAtLeast(atom, count);
-    }
-    meaning::SeqTerm::Empty
-}
-
-fn hop_from(tag: u32, length: u32) -> meaning::SeqHop
-    ensures { result ≡ hop_from tag length }
-{
-    if tag == 0 {
-        return meaning::SeqHop::Fixed(length);
-    }
-    meaning::SeqHop::AtLeast(length)
+    let [kind, atom, count] = term_words(s.term);
+    let [hop, ticks] = hop_words(s.hop);
+    words::copied(&[kind, atom, count, hop, ticks], out, at)
 }
 
 // The step that stands at the place.
-fn load(s: &[u32], at: usize) -> meaning::SeqStep
+#[tactic(auto, unfolding(crate::specs::Steps::step_at))]
+fn load(s: &[u32], at: usize) -> SeqStep
     requires { at + 5 ≤ length s.now }
     ensures { result ≡ step_at s.now at }
 {
-    let x = term_from(s[at], s[at + 1], s[at + 2]);
-    let h = hop_from(s[at + 3], s[at + 4]);
-    meaning::SeqStep { term: x, hop: h }
+    SeqStep {
+        term: term_from(s[at], s[at + 1], s[at + 2]),
+        hop: hop_from(s[at + 3], s[at + 4]),
+    }
 }
 
-// The k-th step of a kept alternative.
-pub fn step(work: &[u32], kept: Kept, k: usize) -> meaning::SeqStep
-    requires { Whole work.now kept × (k < kept.steps) }
-    ensures { result ≡ step_of work.now kept k }
-{
-    load(work, kept.from + k * 5)
+// A kept alternative, and the work that it stands in.
+#[derive(Clone, Copy)]
+pub struct Alternative<'a> {
+    pub work: &'a [u32],
+    pub kept: Kept,
+    ghost whole: { Whole work.now kept },
 }
 
-// Puts the words of a kept alternative's guard from the place on; the next place.
-pub fn put_guard(work: &[u32], kept: Kept, out: &mut [u32], at: usize) -> usize
-    requires { Whole work.now kept × (at + length (guard_of work.now kept) ≤ length out.old) }
-    ensures { Wrote out.old out.new at result (guard_of work.now kept) }
-{
-    let from = kept.guard;
-    let to = kept.end;
-    words::copied(&work[from..to], out, at)
-}
+impl<'a> Alternative<'a> {
+    // Its k-th step.
+    pub fn step(self, k: usize) -> SeqStep
+        requires { k < self.kept.steps }
+        ensures { result ≡ step_of self.entry.work.now self.entry.kept k }
+    {
+        load(self.work, self.kept.from + k * 5)
+    }
 
-// A kept alternative without its guard, for the delays of an "at least" hop, which take none.
-pub fn without_guard(kept: Kept) -> Kept
-    ensures { result ≡ without_guard kept }
-{
-    Kept {
-        from: kept.from,
-        steps: kept.steps,
-        guard: kept.end,
-        end: kept.end,
-        register: kept.register,
+    // The words of its guard.
+    #[tactic(auto, unfolding(crate::specs::Keeping::guard_of))]
+    pub fn guard(self) -> &'a [u32]
+        ensures { result.now ≡ guard_of self.entry.work.now self.entry.kept }
+    {
+        &self.work[self.kept.guard..self.kept.end]
     }
 }

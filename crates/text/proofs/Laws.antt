@@ -1,33 +1,40 @@
 -- Bytes written part by part, as the code meets them; and how many a part has at most, which is the room that its writer asks for.
-use mathlib.Core.Bool.{Bool, true, false}
+use mathlib.Core.Bool.{Bool}
 use mathlib.Core.Path.{◌≡◌, refl, sym}
-use mathlib.Core.List.{List, [], ◌∷◌}
-use Prim.Native.Nat.{ℕ, zero, suc, ◌+◌, ◌-◌, ◌<◌, ◌≤◌, ◌/◌, ◌%◌}
+use mathlib.Core.List.{List, [], ◌∷◌, ◌++◌, append-nil, append_assoc}
+use Prim.Native.Nat.{ℕ, zero, suc, ◌+◌, ◌-◌, ◌*◌, ◌<◌, ◌≤◌, ◌/◌, ◌%◌}
 use Prim.Native.Char.{code}
 use native.Mathlib.Omega.{arith}
-use borrow.Author.Tests.{lt-ltb, le-ltb, eq-eqb, ne_eqb}
-use lib.Dec.{ltb}
-use lib.ListN.{length, length-append}
+use Rattle.std.proofs.Common.{Result, Ok, Err}
+use Rattle.std.proofs.lemmas.Bool.Decides.{nat_tests}
+use lib.Dec.{eqb, ltb}
+use lib.ListN.{length, get_or, take, length-append, length-take}
 use Rattle.words.specs.Choice.{pick, pick_true, pick_false, pick_case}
 use Rattle.words.specs.Written.{written, Wrote}
-use Rattle.words.proofs.Laws.{same_words, two_parts, three_parts}
-use Rattle.meaning.specs.declared.Lowered.{Lowered}
-use Rattle.meaning.specs.declared.Lowered.TheVariants.{Listing, Refused}
-use Rattle.text.specs.Text.{bytes, digits, decimal, decimal_then, first_line_text}
+use Rattle.words.proofs.Laws.{two_parts, three_parts}
+use Rattle.meaning.specs.Listing.{operation, argument}
+use Rattle.meaning.specs.Answers.{number, place}
+use Rattle.meaning.specs.declared.Listing.{Listing}
+use Rattle.meaning.specs.declared.refusal.Refusal.{Refusal}
+use Rattle.text.specs.Text.{bytes, digits, decimal, decimal_then, token_text, tag_text, line_start_text, tokens_text, line_text, first_line_text}
 
--- What a branch writes where it is taken is what the choice says.
-pub wrote_first : {o o' : List ℕ} {at p : ℕ} {b : Bool} {xs : List ℕ} (ys : List ℕ) → b ≡ true → Wrote o o' at p xs → Wrote o o' at p (pick b xs ys)
-wrote_first {xs = xs} ys e w = same_words (sym (pick_true xs ys e)) w
+-- Which branch a choice takes.
+pub ruleset choices = (pick_true, pick_false, nat_tests)
 
-pub wrote_second : {o o' : List ℕ} {at p : ℕ} {b : Bool} {ys : List ℕ} (xs : List ℕ) → b ≡ false → Wrote o o' at p ys → Wrote o o' at p (pick b xs ys)
-wrote_second {ys = ys} xs e w = same_words (sym (pick_false xs ys e)) w
+-- Words in two parts are written one part behind the other.
+pub written_append : (o : List ℕ) (at : ℕ) (xs ys : List ℕ) → written o at (xs ++ ys) ≡ written (written o at xs) (at + length xs) ys
+written_append o at xs ys =
+    let front : Wrote o (written o at xs) at (at + length xs) xs = record { holds = refl; ends = refl } in
+    let back : Wrote (written o at xs) (written (written o at xs) (at + length xs) ys) (at + length xs) (at + length xs + length ys) ys =
+    record { holds = refl; ends = refl } in
+    sym (two_parts front back).holds
 
--- For a return behind a chain of tests, each branch of which writes.
-pub ruleset chosen = (wrote_first, wrote_second, eq-eqb, ne_eqb)
+pub written_byte : (o : List ℕ) (at x : ℕ) (ws : List ℕ) → written o at (x ∷ ws) ≡ written (written o at (x ∷ [])) (at + 1) ws
+written_byte o at x ws = written_append o at (x ∷ []) ws
 
--- The places lie as far apart as the bytes are many.
-pub ends_within : {o o' : List ℕ} {at p k : ℕ} (ws : List ℕ) → length ws ≤ k → Wrote o o' at p ws → p ≤ at + k
-ends_within ws few w = omega (arith, w.ends)
+pub written_nothing : (o : List ℕ) (at : ℕ) → written o at [] ≡ o
+unfolding written
+written_nothing o at = refl
 
 -- A choice has no more bytes than the longer branch.
 pub pick_few : {k : ℕ} (b : Bool) (xs ys : List ℕ) → length xs ≤ k → length ys ≤ k → length (pick b xs ys) ≤ k
@@ -41,57 +48,94 @@ digits_few (suc most) n =
     let fewer = digits_few most (n / 10) in
     pick_few (ltb n 10) _ _ (omega arith) (simp length-append (omega arith))
 
-pub digits_end : (most n : ℕ) {o o' : List ℕ} {at p : ℕ} → Wrote o o' at p (digits most n) → p ≤ at + most
-digits_end most n w = ends_within (digits most n) (digits_few most n) w
+-- A token has at most 21 bytes, a letter and twenty digits; a tag has three, and what stands before the tokens 26.
+pub token_few : (w : ℕ) → length (token_text w) ≤ 21
+unfolding token_text
+token_few w =
+    let lettered : suc (length (decimal (argument w))) ≤ 21 = omega (arith, digits_few 20 (argument w)) in
+    pick_few (eqb (operation w) 1) _ _ lettered
+    (pick_few (eqb (operation w) 2) _ _ lettered
+    (pick_few (eqb (operation w) 3) _ _ (omega arith)
+    (pick_few (eqb (operation w) 4) _ _ (omega arith)
+    (pick_few (eqb (operation w) 5) _ _ (omega arith)
+    (pick_few (eqb (operation w) 6) _ _ (omega arith) (pick_few (eqb (operation w) 7) _ _ (omega arith) (omega arith)))))))
 
--- The three returns of `number`: no digit is allowed, one is enough, or the digits in front and then the last.
-pub no_digits : (o : List ℕ) (at most n : ℕ) → most ≡ 0 → Wrote o o at at (digits most n)
-unfolding digits written
-no_digits o at most n e = rw e record { holds = refl; ends = omega arith }
+pub tag_few : (o : ℕ) → length (tag_text o) ≤ 3
+unfolding tag_text
+tag_few o =
+    pick_few (eqb o 9) _ _ (omega arith)
+    (pick_few (eqb o 10) _ _ (omega arith)
+    (pick_few (eqb o 11) _ _ (omega arith) (pick_few (eqb o 12) _ _ (omega arith) (omega arith))))
 
-pub one_digit : {o o' : List ℕ} {at p most n : ℕ} → (most ≡ 0 → ⊥) → n < 10 → Wrote o o' at p ((code "0" + n) ∷ []) → Wrote o o' at p (digits most n)
+pub line_start_few : (w : ℕ) → length (line_start_text w) ≤ 26
+unfolding line_start_text
+line_start_few w =
+    pick_few (eqb (operation w) 14) _ _ (omega arith)
+    (simp length-append (omega (arith, tag_few (operation w), digits_few 20 (argument w))))
+
+-- An expression has at most 22 bytes a word, and a line at most 27 more for its store.
+pub tokens_few : (ws : List ℕ) → length (tokens_text ws) ≤ 22 * length ws
+unfolding tokens_text
+tokens_few [] = omega arith
+tokens_few (w ∷ ws) = simp length-append (omega (arith, token_few w, tokens_few ws))
+
+pub line_few : (ws : List ℕ) (w : ℕ) → length (line_text ws w) ≤ 22 * length ws + 27
+unfolding line_text
+line_few ws w = simp length-append (omega (arith, line_start_few w, tokens_few ws))
+
+pub first_line_few : (answer : Result Listing Refusal) → length (first_line_text answer) ≤ 66
+unfolding first_line_text
+first_line_few (Ok listing) = simp length-append (omega (arith, digits_few 20 listing.registers, digits_few 20 listing.words, digits_few 20 listing.deepest))
+first_line_few (Err refusal) = simp length-append (omega (arith, digits_few 20 (number refusal), digits_few 20 (place refusal)))
+
+-- No digit is allowed; or one is enough, or the digits in front and then the last.
+pub no_digits : (n : ℕ) → digits 0 n ≡ []
 unfolding digits
-one_digit {most = zero} some h w = absurd (some refl)
-one_digit {most = suc most} {n} some h w = wrote_first _ (lt-ltb n 10 h) w
+no_digits n = refl
 
-pub more_digits : {o o' o'' : List ℕ} {at p q most n : ℕ} → (most ≡ 0 → ⊥) → 10 ≤ n
-    → Wrote o o' at p (digits (most - 1) (n / 10)) → Wrote o' o'' p q ((code "0" + n % 10) ∷ []) → Wrote o o'' at q (digits most n)
+pub some_digits : (most n : ℕ) → 0 < most → digits most n ≡ pick (ltb n 10) ((48 + n) ∷ []) (digits (most - 1) (n / 10) ++ ((48 + n % 10) ∷ []))
 unfolding digits
-more_digits {most = zero} some h front back = absurd (some refl)
-more_digits {most = suc most} {n} some h front back =
-    let e : suc most - 1 ≡ most = omega arith in
-    wrote_second _ (le-ltb n 10 h) (two_parts (rw e at front) back)
+some_digits zero n h = absurd (omega arith)
+some_digits (suc most) n h = let e : suc most - 1 ≡ most = omega arith in rw e
 
--- A byte and a number behind it, and a number and a byte.
-pub byte_then_number : {o o' o'' : List ℕ} {at p q byte : ℕ} (n : ℕ) → Wrote o o' at p (byte ∷ []) → Wrote o' o'' p q (decimal n) → Wrote o o'' at q (byte ∷ decimal n)
-byte_then_number n front back = two_parts front back
+-- The tokens of no word, and of one word more.
+pub no_tokens : tokens_text [] ≡ []
+unfolding tokens_text
+no_tokens = refl
 
-pub byte_then_number_end : (byte n : ℕ) {o o' : List ℕ} {at p : ℕ} → Wrote o o' at p (byte ∷ decimal n) → p ≤ at + 21
-byte_then_number_end byte n w = ends_within (byte ∷ decimal n) (omega (arith, digits_few 20 n)) w
+pub tokens_more : (ws : List ℕ) (i : ℕ) → i < length ws → tokens_text (take (i + 1) ws) ≡ tokens_text (take i ws) ++ (32 ∷ token_text (get_or ws i 0))
+unfolding tokens_text
+tokens_more [] i h = absurd (omega arith)
+tokens_more (w ∷ ws) zero h = rw append-nil
+tokens_more (w ∷ ws) (suc i) h =
+    let e : suc i + 1 ≡ suc (i + 1) = omega arith in
+    let later = tokens_more ws i (omega arith) in
+    rw e (simp (later, append_assoc))
 
-pub number_then_byte : {o o' o'' : List ℕ} {at p q end : ℕ} (n : ℕ) → Wrote o o' at p (decimal n) → Wrote o' o'' p q (end ∷ []) → Wrote o o'' at q (decimal_then end n)
-number_then_byte n front back = two_parts front back
+-- For what is written part by part, with the room that each part takes.
+pub ruleset parts = (
+  written_append,
+  written_byte,
+  written_nothing,
+  length-append,
+  no_digits,
+  some_digits,
+  digits_few,
+  token_few,
+  tag_few,
+  line_start_few,
+  tokens_few,
+  no_tokens,
+  tokens_more,
+  length-take,
+  pick_true,
+  pick_false,
+  nat_tests,
+)
 
-pub number_then_byte_end : (end n : ℕ) {o o' : List ℕ} {at p : ℕ} → Wrote o o' at p (decimal_then end n) → p ≤ at + 21
-number_then_byte_end end n w = ends_within (decimal_then end n) (simp length-append (omega (arith, digits_few 20 n))) w
-
--- The first line of a listing, and that of a refusal.
-pub counts_line : {answer : Lowered} {r w d : ℕ} {o o₁ o₂ o₃ o₄ : List ℕ} {at p q s next : ℕ} → answer ≡ Listing r w d
-    → Wrote o o₁ at p (bytes "ok ") → Wrote o₁ o₂ p q (decimal_then (code " ") r) → Wrote o₂ o₃ q s (decimal_then (code " ") w)
-    → Wrote o₃ o₄ s next (decimal_then (code "\n") d) → Wrote o o₄ at next (first_line_text answer)
+-- The first line of a refusal.
+pub refusal_line : {answer : Result Listing Refusal} {refusal : Refusal} {o o₁ o₂ o₃ : List ℕ} {at p q next n m : ℕ} → answer ≡ Err refusal
+    → n ≡ number refusal → m ≡ place refusal → Wrote o o₁ at p (bytes "refused ") → Wrote o₁ o₂ p q (decimal_then (code " ") n)
+    → Wrote o₂ o₃ q next (decimal_then (code "\n") m) → Wrote o o₃ at next (first_line_text answer)
 unfolding first_line_text
-counts_line e ok registers words deepest = rw e (two_parts ok (three_parts registers words deepest))
-
-pub refusal_line : {answer : Lowered} {number place : ℕ} {o o₁ o₂ o₃ : List ℕ} {at p q next : ℕ} → answer ≡ Refused number place
-    → Wrote o o₁ at p (bytes "refused ") → Wrote o₁ o₂ p q (decimal_then (code " ") number) → Wrote o₂ o₃ q next (decimal_then (code "\n") place)
-    → Wrote o o₃ at next (first_line_text answer)
-unfolding first_line_text
-refusal_line e refused number place = rw e (three_parts refused number place)
-
-pub first_line_few : (answer : Lowered) → length (first_line_text answer) ≤ 66
-unfolding first_line_text
-first_line_few (Listing r w d) = simp length-append (omega (arith, digits_few 20 r, digits_few 20 w, digits_few 20 d))
-first_line_few (Refused number place) = simp length-append (omega (arith, digits_few 20 number, digits_few 20 place))
-
-pub first_line_end : (answer : Lowered) {o o' : List ℕ} {at p : ℕ} → Wrote o o' at p (first_line_text answer) → p ≤ at + 66
-first_line_end answer w = ends_within (first_line_text answer) (first_line_few answer) w
+refusal_line is e f refused numbered placed = rw (is, ← e, ← f) (three_parts refused numbered placed)

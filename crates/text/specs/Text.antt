@@ -1,14 +1,15 @@
 -- The text of an answer, byte by byte (SPECIFICATION, "The listing program"): the counts or the refusal on the first line, then a line for
 -- each register and one for the match.
 -- Example: for `a ##1 b` it is "ok 1 8 2\nseq 0 = a0 any\nmatch = r0 a1 any and\n".
-use Rattle.std.specs.Prelude.{List, [], ◌∷◌, ◌++◌, ℕ, zero, suc, ◌+◌, ◌/◌, ◌%◌, eqb, leb, ltb, take}
+use Rattle.std.specs.Prelude.{Result, Ok, Err, List, [], ◌∷◌, ◌++◌, ℕ, zero, suc, ◌+◌, ◌/◌, ◌%◌, eqb, leb, ltb, take}
 use Prim.Native.Char.{code}
 use Prim.Native.String.{String}
 use Prim.Native.String as quoted
 use Rattle.words.specs.Choice.{pick}
 use Rattle.meaning.specs.Listing.{operation, argument}
-use Rattle.meaning.specs.declared.Lowered.{Lowered}
-use Rattle.meaning.specs.declared.Lowered.TheVariants.{Listing, Refused}
+use Rattle.meaning.specs.Answers.{number, place}
+use Rattle.meaning.specs.declared.Listing.{Listing}
+use Rattle.meaning.specs.declared.refusal.Refusal.{Refusal}
 
 -- The bytes of a quoted text.
 abbrev pub bytes : String → List ℕ
@@ -77,15 +78,16 @@ abbrev pub decimal_then : ℕ → ℕ → List ℕ
 decimal_then end n = decimal n ++ (end ∷ [])
 
 -- "The first line is ok, the registers, the words and the deepest stack; or refused, the number and the place."
-unfoldable pub first_line_text : Lowered → List ℕ
-first_line_text (Listing r w d) = bytes "ok " ++ (decimal_then (code " ") r ++ (decimal_then (code " ") w ++ decimal_then (code "\n") d))
-first_line_text (Refused number place) = bytes "refused " ++ (decimal_then (code " ") number ++ decimal_then (code "\n") place)
+unfoldable pub first_line_text : Result Listing Refusal → List ℕ
+first_line_text (Ok listing) =
+    bytes "ok " ++ (decimal_then (code " ") listing.registers ++ (decimal_then (code " ") listing.words ++ decimal_then (code "\n") listing.deepest))
+first_line_text (Err refusal) = bytes "refused " ++ (decimal_then (code " ") (number refusal) ++ decimal_then (code "\n") (place refusal))
 
 -- How many words of the output are the listing.
-unfoldable pub words_listed : Lowered → ℕ
-words_listed (Listing r w d) = w
-words_listed (Refused number place) = 0
+unfoldable pub words_listed : Result Listing Refusal → ℕ
+words_listed (Ok listing) = listing.words
+words_listed (Err refusal) = 0
 
 -- The whole text of an answer: the first line, then the lines of the listing, which stands in front of the output.
-unfoldable pub answer_text : Lowered → List ℕ → List ℕ
+unfoldable pub answer_text : Result Listing Refusal → List ℕ → List ℕ
 answer_text answer out = first_line_text answer ++ lines_text [] (take (words_listed answer) out)

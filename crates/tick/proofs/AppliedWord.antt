@@ -3,10 +3,11 @@ use mathlib.Core.Path.{◌≡◌, refl, sym, ◌∙◌}
 use mathlib.Core.Bool.{Bool, true, false}
 use mathlib.Core.List.{List, [], ◌∷◌, tail}
 use Prim.Native.Nat.{ℕ, zero, suc, ◌+◌, ◌-◌, ◌*◌, ◌<◌, ◌≤◌, max}
-use native.Mathlib.Nat.{zero-mul, one-mul, mul-le-mul, max-le}
+use native.Mathlib.Nat.{zero-mul, mul-le-mul, max-le}
 use native.Mathlib.Numerals.{add-one}
 use native.Mathlib.Omega.{arith}
 use native.Mathlib.Decide.{dec_le}
+use lib.Bits.{bit_and}
 use lib.Dec.{eqb, ltb}
 use lib.ListN.{length, get_or, set, length-set}
 use lib.Seq.{get_or-set_same, get_or-set_other}
@@ -17,15 +18,19 @@ use Rattle.meaning.specs.Tick.{negated, anded, ored, stack_after, all_bits}
 use Rattle.meaning.specs.declared.Row.{Row}
 use Rattle.words.proofs.Taken.{second_holds}
 use Rattle.listing.proofs.Laws.{value_row, change_row, join_row}
-use Rattle.tick.specs.Stack.{stack_in, Lent, value_of, Applicable, Applied}
+use Rattle.tick.specs.Stack.{stack_in, value_of, Applicable, Applied}
 
--- Zero AND a bit is zero.
-pub and_zero : {x : ℕ} (y : ℕ) → x ≡ 0 → 0 ≡ x * y
-and_zero y e = rw (e, zero-mul y) refl
-
--- One AND a bit is the bit.
-pub and_one : {x : ℕ} (y : ℕ) → x ≤ 1 → (x ≡ 0 → ⊥) → y ≡ x * y
-and_one {x} y h n = let e : x ≡ 1 = omega arith in rw (e, one-mul y) refl
+-- The AND of two bits is their product.
+pub and_is_product : {x y : ℕ} → x ≤ 1 → y ≤ 1 → bit_and x y ≡ x * y
+and_is_product {x} {y} h k =
+    elim (dec_le 1 x) [
+      | yes a ↦
+          elim (dec_le 1 y) [
+            | yes b ↦ let p : x ≡ 1 = omega arith in let q : y ≡ 1 = omega arith in rw (p, q) refl
+            | no b ↦ let p : x ≡ 1 = omega arith in let q : y ≡ 0 = omega arith in rw (p, q) refl
+          ]
+      | no a ↦ let p : x ≡ 0 = omega arith in rw (p, zero-mul y) refl
+    ]
 
 -- A store past the stack does not change it.
 kept : (places : List ℕ) (h i v : ℕ) → h ≤ i → stack_in (set places i v) h ≡ stack_in places h
@@ -79,16 +84,6 @@ value_after cur atoms w st p q =
     λ a. chosen (eqb (operation w) 2) _ _ st _
     λ b. chosen (eqb (operation w) 3) _ _ st _
     λ c. pick_true _ _ (eq-eqb (operation w) 4 (omega (arith, eqb-false (operation w) 1 a, eqb-false (operation w) 2 b, eqb-false (operation w) 3 c)))
-
--- What a word names is lent.
-module _ {cur atoms w : ℕ} (l : Lent cur atoms w) where
-  -- The atom that a word names is lent.
-  pub atom_lent : operation w ≡ 1 → argument w < atoms
-  atom_lent q = l.atom q
-
-  -- The register that a word names is lent.
-  pub register_lent : operation w ≡ 2 → argument w < cur
-  register_lent q = l.register q
 
 -- What the code asks of the stack before it reads or writes there.
 module _ {registers lent : ℕ} {places : List ℕ} {h w : ℕ} (r : Applicable registers lent places h w) where
@@ -185,17 +180,19 @@ module _ {registers lent : ℕ} {places : List ℕ} {h w : ℕ} (r : Applicable 
         }
 
     -- Operation 7 is applied by putting the product of the two topmost values in their place.
-    pub apply_and : {x : ℕ} {k : Row} → operation w ≡ 7 → x ≡ get_or places (h - 2) 0 * get_or places (h - 1) 0 → k ≡ row_of 7
-        → n ≡ h - k.takes + k.leaves → after ≡ set places (h - k.takes) x → Applied cur atoms places after h w n
+    pub apply_and : {k : Row} → operation w ≡ 7 → k ≡ row_of 7 → n ≡ h - k.takes + k.leaves
+        → after ≡ set places (h - k.takes) (bit_and (get_or places (h - 2) 0) (get_or places (h - 1) 0)) → Applied cur atoms places after h w n
     unfolding stack_after pick anded
-    apply_and {x} q v f y z =
+    apply_and q f y z =
+        let x = get_or places (h - 2) 0 * get_or places (h - 1) 0 in
+        let v = and_is_product (second_bit (omega arith)) (top_bit (omega arith)) in
         let binary = f ∙ join_row 7 (omega arith) (omega arith) in
         let a : n ≡ h - 2 + 1 = y ∙ rw binary refl in
-        let b : after ≡ set places (h - 2) x = z ∙ rw binary refl in
+        let b : after ≡ set places (h - 2) x = z ∙ rw (binary, v) refl in
         record {
           long = rw b (length-set places (h - 2) x);
           high = rw (a, join_row (operation w) (omega arith) (omega arith)) refl;
-          holds = rw (a, b, q, put_on places (h - 2) x (room_for_two (omega arith)), two_off places h (two_there (omega arith)), v) refl;
+          holds = rw (a, b, q, put_on places (h - 2) x (room_for_two (omega arith)), two_off places h (two_there (omega arith))) refl;
         }
 
     -- Operation 8 is applied by putting the larger of the two topmost values in their place.
@@ -267,3 +264,26 @@ bits_after cur atoms w st a c e =
     λ _. pick_case Bits _ (λ _. negated_bits st e)
     λ _. pick_case Bits _ (λ _. anded_bits st e)
     λ _. pick_case Bits _ (λ _. ored_bits st e) λ _. tail_bits st e
+
+-- What a word of an expression asks for at each kind of operation, and what it then does.
+pub ruleset applies = (
+  one_there,
+  two_there,
+  room_for_one,
+  room_for_two,
+  top_bit,
+  value_finds,
+  any_finds,
+  not_finds,
+  and_finds,
+  or_finds,
+  value_room,
+  not_room,
+  and_room,
+  or_room,
+  apply_value,
+  apply_any,
+  apply_not,
+  apply_and,
+  apply_or,
+)

@@ -17,7 +17,7 @@ use Rattle.meaning.specs.Listing.{operation, argument, row_of, height, is_store,
 use Rattle.meaning.specs.Check.{check_from, check}
 use Rattle.meaning.specs.Tick.{top, stack_after, stored, matched, all_bits, named_bits}
 use Rattle.meaning.specs.declared.Row.{Row}
-use Rattle.meaning.specs.declared.Checked.TheVariants.{Described}
+use Rattle.meaning.specs.Answers.{described}
 use Rattle.words.proofs.Taken.{second_holds}
 use Rattle.meaning.proofs.Operations.{operation_is_store, below_9_is_no_store}
 use Rattle.listing.proofs.Laws.{end_row, Fitting, register_below, described_fits, described_goes_on, described_ends}
@@ -94,7 +94,7 @@ pub record Evaluating (ws cur atoms next next' stack stack' : List ℕ) (k h p :
   pub inside : p ≤ length ws
   pub going : Going next 0 (stored cur atoms ws []) next' k (stored cur atoms (drop p ws) (stack_in stack' h))
   pub matches : matched cur atoms ws [] ≡ matched cur atoms (drop p ws) (stack_in stack' h)
-  pub fits : check_from (registers ws) (drop p ws) p k h ≡ Described
+  pub fits : check_from (registers ws) (drop p ws) p k h ≡ described
   pub left : registers ws ≡ k + registers (drop p ws)
   pub named : atoms_named (drop p ws) ≤ length atoms
   pub deep : deepest_from h (drop p ws) ≤ length stack'
@@ -125,7 +125,7 @@ evaluating_begins {ws} {cur} {atoms} {next} {stack} r = record {
 module _ {ws cur atoms next next' stack stack' : List ℕ} {k h p : ℕ} (r : Ready ws cur atoms next stack)
     (g : Evaluating ws cur atoms next next' stack stack' k h p) (l : p < length ws) where
   -- What remains is as described, with the word at p apart.
-  fits_here : check_from (registers ws) (word_at ws p ∷ behind ws p) p k h ≡ Described
+  fits_here : check_from (registers ws) (word_at ws p ∷ behind ws p) p k h ≡ described
   fits_here = rw (drop_here ws p l) at g.fits
 
   -- The word at p fits.

@@ -6,7 +6,7 @@ use Rattle.words.specs.Written.{written}
 use Rattle.meaning.specs.Listing.{operation, argument, height, registers, deepest, atoms_named}
 use Rattle.meaning.specs.Check.{check}
 use Rattle.meaning.specs.Tick.{stack_after, stored, matched, all_bits, named_bits}
-use Rattle.meaning.specs.declared.Checked.TheVariants.{Described}
+use Rattle.meaning.specs.Answers.{described}
 use Rattle.listing.specs.Operands.{OperandFound}
 
 -- The stack, top first, that stands in the first h places.
@@ -41,7 +41,7 @@ pub record Applied (cur atoms places after : List ℕ) (h w r : ℕ) : Type 0 wh
 
 -- All that refusals 21, 22 and 23 leave: the premises of the evaluation.
 pub record Ready (ws cur atoms next places : List ℕ) : Type 0 where
-  pub described : check ws ≡ Described
+  pub described : check ws ≡ described
   pub cur_long : registers ws ≤ length cur
   pub next_long : registers ws ≤ length next
   pub atoms_long : atoms_named ws ≤ length atoms

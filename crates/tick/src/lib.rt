@@ -11,13 +11,13 @@ ghost use Rattle.std.specs.Prelude.{◌≡◌, false, ◌*◌, ◌+◌, ◌-◌,
 ghost use Rattle.words.specs.Choice.{pick};
 ghost use Rattle.meaning.specs.Check.{check};
 ghost use Rattle.meaning.specs.Tick.{all_bits};
-ghost use Rattle.meaning.specs.declared.Checked.TheVariants.{Described, Faulty as FaultyAt};
+ghost use Rattle.meaning.specs.Answers.{described, faulty};
 ghost use Rattle.listing.specs.Step.{Undescribed};
 ghost use Rattle.tick.specs.Survey.{wanted as wanted_of, lacking, surveyed};
 ghost use Rattle.tick.specs.Stack.{Lent, value_of, Applicable, Applied, Ready, Evaluated};
 ghost use Rattle.tick.specs.Stepped.{Stepped};
 
-use meaning::{operation, word};
+use meaning::{TickRefusal, operation, word};
 
 // What a described listing wants: so many registers and atoms, so deep a stack, and each atom that it names a bit.
 #[derive(Clone, Copy)]
@@ -28,67 +28,41 @@ struct Wanted {
     bits: bool,
 }
 
-// The pass's answer: what is wanted, or that refusal 21 applies.
-#[derive(Clone, Copy)]
-enum Surveyed {
-    Whole(Wanted),
-    Faulty,
-}
-
 // Whether the atoms named are bits, this one included; one that is not lent is no byte above 1.
+#[tactic(auto, unfolding(words::specs::Choice::pick))]
 fn bits_with(bits: bool, atoms: &[u8], a: usize) -> bool
     ensures { result ≡ pick (ltb 1 (get_or atoms.now a 0)) false bits }
 {
-    if a < atoms.len() {
-        if 1 < atoms[a] {
-            return false;
-        }
-    }
-    bits
+    atoms.get(a).is_none_or(|byte| *byte <= 1) && bits
 }
 
 // The place of the first fault of a listing that has one, by the exact check.
 fn fault(listing: &[u32]) -> usize
     requires { Undescribed listing.now }
-    ensures { FaultyAt result ≡ check listing.now }
+    ensures { faulty result ≡ check listing.now }
 {
-    let meaning::Checked::Faulty(place) = listing::checked(listing) else {
-        // Ruled out by what is required.
-        return 0;
-    };
-    place
+    listing::checked(listing).unwrap_err().place
 }
 
-// The pass: each word once, and the last apart, so that only that one is compared with the match. A register may be named
-// before its store is seen, so the highest is compared at the end.
-fn survey(listing: &[u32], atoms: &[u8]) -> Surveyed
+// The pass: each word once, and the last apart, so that only that one is compared with the match; nothing where refusal 21 applies. A register
+// may be named before its store is seen, so the highest is compared at the end.
+fn survey(listing: &[u32], atoms: &[u8]) -> Option<Wanted>
     ensures { result ≡ surveyed listing.now atoms.now }
 {
+    let (&last, before) = listing.split_last()?;
     let mut s = listing::NOTHING;
     let mut bits = true;
-    let mut at = 0;
-    while at + 1 < listing.len() {
-        let w = listing[at];
-        let listing::Noted::Fits(t) = listing::note(65536, s, w) else {
-            return Surveyed::Faulty;
-        };
-        s = t;
+    for &w in before {
+        s = listing::note(65536, s, w)?;
         // A word that fits and lies here is an atom: the step's own test, so that the compiled loop makes it once.
         if w < word::REGISTER {
             bits = bits_with(bits, atoms, (w % operation::UNIT) as usize);
         }
-        at += 1;
     }
-    if listing.len() <= at {
-        return Surveyed::Faulty;
+    if !listing::ended(s, last) || s.stores < s.named {
+        return None;
     }
-    if !listing::ended(s, listing[at]) {
-        return Surveyed::Faulty;
-    }
-    if s.stores < s.named {
-        return Surveyed::Faulty;
-    }
-    Surveyed::Whole(Wanted {
+    Some(Wanted {
         registers: s.stores,
         atoms: s.atoms,
         deepest: s.deepest,
@@ -96,35 +70,11 @@ fn survey(listing: &[u32], atoms: &[u8]) -> Surveyed
     })
 }
 
-// The larger of two bytes; of two bits, their OR.
-fn either(x: u8, y: u8) -> u8
-    ensures { result ≡ max x y }
-{
-    if x < y { y } else { x }
-}
-
-// The AND of two bits, with no multiplication.
-fn both(x: u8, y: u8) -> u8
-    requires { x ≤ 1 }
-    ensures { result ≡ x * y }
-{
-    if x == 0 {
-        return 0;
-    }
-    y
-}
-
 // Whether each byte is 0 or 1: the highest decides, so that the loop has no exit and the compiler takes many bytes at once.
 fn are_bits(bytes: &[u8]) -> bool
     ensures { result ≡ all_bits bytes.now }
 {
-    let mut highest = 0;
-    let mut at = 0;
-    while at < bytes.len() {
-        highest = either(highest, bytes[at]);
-        at += 1;
-    }
-    highest <= 1
+    bytes.iter().fold(0, |highest: u8, byte| highest.max(*byte)) <= 1
 }
 
 // Puts the value of a word of this row where the first that it takes stood; the height after.
@@ -137,25 +87,23 @@ fn put(stack: &mut [u8], height: usize, row: meaning::Row, x: u8) -> usize
 }
 
 // The value that operations 1 to 4 put on the stack.
+#[tactic(auto, unfolding(crate::specs::Stack::value_of, words::specs::Choice::pick))]
 fn value(w: u32, cur: &[u8], atoms: &[u8]) -> u8
     requires { Lent (length cur.now) (length atoms.now) w }
     ensures { result ≡ value_of cur.now atoms.now w }
 {
-    let o = w / operation::UNIT;
     let a = (w % operation::UNIT) as usize;
-    if o == operation::ATOM {
-        return atoms[a];
+    match w / operation::UNIT {
+        operation::ATOM => atoms[a],
+        operation::REGISTER => cur[a],
+        operation::ZERO => 0,
+        _ => 1,
     }
-    if o == operation::REGISTER {
-        return cur[a];
-    }
-    if o == operation::ZERO {
-        return 0;
-    }
-    1
 }
 
-// A word of an expression, operations 1 to 8, on the stack, each kind by its row; the height after.
+// A word of an expression, operations 1 to 8, on the stack, each kind by its row; the height after. A `match` would be compiled into a table of
+// jumps, which takes longer at every word.
+#[tactic(auto, using(crate::proofs::AppliedWord::applies))]
 fn apply(w: u32, cur: &[u8], atoms: &[u8], stack: &mut [u8], height: usize) -> usize
     requires { Applicable (length cur.now) (length atoms.now) stack.old height w }
     ensures { Applied cur.now atoms.now stack.old stack.new height w result }
@@ -178,9 +126,9 @@ fn apply(w: u32, cur: &[u8], atoms: &[u8], stack: &mut [u8], height: usize) -> u
     }
     let x = stack[height - 2];
     if o == operation::AND {
-        return put(stack, height, listing::row(operation::AND), both(x, y));
+        return put(stack, height, listing::row(operation::AND), x & y);
     }
-    put(stack, height, listing::row(operation::OR), either(x, y))
+    put(stack, height, listing::row(operation::OR), x.max(y))
 }
 
 // Register r of `next` takes its value; the register after it.
@@ -200,10 +148,7 @@ fn evaluate(listing: &[u32], cur: &[u8], atoms: &[u8], next: &mut [u8], stack: &
 {
     let mut stores = 0;
     let mut height = 0;
-    let mut at = 0;
-    while at < listing.len() {
-        let w = listing[at];
-        let place = at + 1;
+    for &w in listing {
         let o = w / operation::UNIT;
         if o < operation::SEQ {
             height = apply(w, cur, atoms, stack, height);
@@ -215,26 +160,20 @@ fn evaluate(listing: &[u32], cur: &[u8], atoms: &[u8], next: &mut [u8], stack: &
             stores = store(next, stores, bit);
             height = listing::moved(height, listing::row(operation::SEQ));
         }
-        at = place;
     }
     // Not reached: a described listing has its match.
     0
 }
 
 // Refusal 22: whether `cur`, `next`, atoms or stack, of these lengths, is too short.
+#[tactic(auto, unfolding(crate::specs::Survey::lacking, words::specs::Choice::pick))]
 fn lacks(wanted: Wanted, cur: usize, atoms: usize, next: usize, stack: usize) -> bool
     ensures { result ≡ lacking wanted cur atoms next stack }
 {
-    if cur < wanted.registers {
-        return true;
-    }
-    if next < wanted.registers {
-        return true;
-    }
-    if atoms < wanted.atoms {
-        return true;
-    }
-    stack < wanted.deepest
+    cur < wanted.registers
+        || next < wanted.registers
+        || atoms < wanted.atoms
+        || stack < wanted.deepest
 }
 
 // A tick of a described listing, whose wants are known: 22, 23, then the evaluation.
@@ -245,23 +184,19 @@ fn step(
     next: &mut [u8],
     stack: &mut [u8],
     wanted: Wanted,
-) -> meaning::Ticked
-    requires { (check listing.now ≡ Described) × (wanted ≡ wanted_of listing.now atoms.now) }
+) -> Result<u8, TickRefusal>
+    requires { (check listing.now ≡ described) × (wanted ≡ wanted_of listing.now atoms.now) }
     ensures { Stepped listing.now cur.now atoms.now next.old next.new stack.old stack.new result }
 {
     if lacks(wanted, cur.len(), atoms.len(), next.len(), stack.len()) {
-        return meaning::Ticked::Refused(22, 0);
+        return Err(TickRefusal::LentTooShort);
     }
-    if !wanted.bits {
-        return meaning::Ticked::Refused(23, 0);
-    }
-    let registers = wanted.registers;
-    if !are_bits(&cur[..registers]) {
-        return meaning::Ticked::Refused(23, 0);
+    if !wanted.bits || !are_bits(&cur[..wanted.registers]) {
+        return Err(TickRefusal::NotBits);
     }
     let bit = evaluate(listing, cur, atoms, next, stack);
-    words::clear_bytes(stack);
-    meaning::Ticked::Match(bit)
+    stack.fill(0);
+    Ok(bit)
 }
 
 // One tick of the registers: `cur` before it, `next` after it. The specification's `now` is called `cur` here, since `now` is a word of
@@ -272,11 +207,11 @@ pub fn tick(
     atoms: &[u8],
     next: &mut [u8],
     stack: &mut [u8],
-) -> meaning::Ticked
+) -> Result<u8, TickRefusal>
     ensures { Stepped listing.now cur.now atoms.now next.old next.new stack.old stack.new result }
 {
-    let Surveyed::Whole(wanted) = survey(listing, atoms) else {
-        return meaning::Ticked::Refused(21, fault(listing));
+    let Some(wanted) = survey(listing, atoms) else {
+        return Err(TickRefusal::NotDescribed(fault(listing)));
     };
     step(listing, cur, atoms, next, stack, wanted)
 }

@@ -1,9 +1,7 @@
 -- How many bytes a call may say that it moved.
-use Rattle.std.specs.Prelude.{ℕ, ◌≤◌}
-use Rattle.tool.specs.declared.Moved.{Moved}
-use Rattle.tool.specs.declared.Moved.TheVariants.{Bytes, Failed}
+use Rattle.std.specs.Prelude.{IfOk, Result, ℕ, ◌≤◌}
+use Rattle.std.specs.declared.io.Error.{Error}
 
 -- No more than there are.
-unfoldable pub Within : Moved → ℕ → Type 0
-Within (Bytes n) most = n ≤ most
-Within (Failed why) most = Unit {0}
+abbrev pub Within : Result ℕ Error → ℕ → Type 0
+Within moved most = IfOk moved (λ count. count ≤ most)

@@ -5,7 +5,7 @@
 #![tactic(auto)]
 
 ghost use Rattle.std.specs.Prelude.{◌≡◌, ◌⊎◌, is_ok, length};
-ghost use Rattle.tool.specs.Request.{same_bytes, asked_by, status_after};
+ghost use Rattle.tool.specs.Request.{asked_by, status_after};
 ghost use Rattle.tool.specs.Moved.{Within};
 
 use std::env::{Env, FillError};
@@ -18,13 +18,6 @@ pub enum Request {
     Work,
     Help,
     Unknown,
-}
-
-// What reading or writing came to. Where it failed, the error says why.
-#[derive(Clone, Copy)]
-pub enum Moved {
-    Bytes(usize),
-    Failed(Error),
 }
 
 // The status where the input or the output failed, or the command line is unknown.
@@ -49,39 +42,16 @@ impl fmt::Display for Shown<'_> {
     }
 }
 
-// Whether the two hold the same bytes.
-#[tactic(auto, using(crate::proofs::Laws::longer_differs, crate::proofs::Laws::comparing_begins, crate::proofs::Laws::comparing_on, crate::proofs::Laws::comparing_differs, crate::proofs::Laws::comparing_ends))]
-fn same(a: &[u8], b: &[u8]) -> bool
-    ensures { result ≡ same_bytes a.now b.now }
-{
-    if a.len() != b.len() {
-        return false;
-    }
-    let mut i = 0;
-    while i < a.len() {
-        if a[i] != b[i] {
-            return false;
-        }
-        i += 1;
-    }
-    true
-}
-
 // What a command line of so many words asks for, the program's name among them, of which `first` is the one behind the name.
-#[tactic(auto, using(words::specs::Choice::tests), unfolding(crate::specs::Request::asked_by))]
+#[tactic(auto, using(crate::proofs::Laws::asking), unfolding(crate::specs::Request::asked_by))]
 pub fn asked_by(words: usize, first: &[u8]) -> Request
     ensures { result ≡ asked_by words first.now }
 {
-    if words < 2 {
-        return Request::Work;
+    match words {
+        0 | 1 => Request::Work,
+        2 if first == b"--help".as_slice() => Request::Help,
+        _ => Request::Unknown,
     }
-    if words != 2 {
-        return Request::Unknown;
-    }
-    if same(first, b"--help") {
-        return Request::Help;
-    }
-    Request::Unknown
 }
 
 // Whether the program's own command line has a word at the place.
@@ -103,88 +73,63 @@ fn word_count(env: &impl Env) -> usize {
 // What the program's own command line asks for. A word that is longer than "--help" is taken for an empty one.
 pub fn asked(env: &impl Env) -> Request {
     let mut first = [0u8; 6];
-    match env.arg(1, &mut first) {
-        Ok(length) => asked_by(word_count(env), &first[..length]),
-        Err(_) => asked_by(word_count(env), b""),
-    }
+    let length = env.arg(1, &mut first).unwrap_or(0);
+    asked_by(word_count(env), &first[..length])
 }
 
-// Whether a call of the system was interrupted by a signal before it moved a byte.
-fn interrupted(got: &io::Result<usize>) -> bool {
-    match got {
-        Ok(_) => false,
-        Err(why) => why.kind() == ErrorKind::Interrupted,
-    }
-}
-
-// What the system's answer says of a part.
-#[tactic(auto, unfolding(crate::specs::Moved::Within))]
-fn answered(got: io::Result<usize>, part: &[u8]) -> Moved
-    ensures { Within result (length part.now) }
+// Makes a call of the system, and makes it again while a signal interrupts it before it moves a byte.
+fn patiently<F: FnMut() -> io::Result<usize>>(mut call: F) -> io::Result<usize>
+    requires { F.IsAlwaysCallable call }
 {
-    match got {
-        Ok(count) => Moved::Bytes(count.min(part.len())),
-        Err(why) => Moved::Failed(why),
+    for _ in 1..PATIENCE {
+        match call() {
+            Err(why) if why.kind() == ErrorKind::Interrupted => {}
+            got => return got,
+        }
     }
+    call()
 }
 
 // Some bytes of the input, at the front of `part`; none at its end.
-fn read_some<R: Read>(input: &mut R, part: &mut [u8]) -> Moved
+fn read_some<R: Read>(input: &mut R, part: &mut [u8]) -> io::Result<usize>
     ensures { Within result (length part.new) }
 {
-    let mut got = input.read(part);
-    for _ in 1..PATIENCE {
-        if !interrupted(&got) {
-            break;
-        }
-        got = input.read(part);
-    }
-    answered(got, part)
+    let most = part.len();
+    let count = patiently(|| input.read(part))?;
+    Ok(count.min(most))
 }
 
 // Standard input up to its end, or as much of it as `room` holds, at the front of `room`.
-#[tactic(auto, unfolding(crate::specs::Moved::Within))]
-pub fn read(rt: &impl Input, room: &mut [u8]) -> Moved
+pub fn read(rt: &impl Input, room: &mut [u8]) -> io::Result<usize>
     ensures { Within result (length room.new) }
 {
     let mut input = rt.reader();
     let mut done = 0;
     while done < room.len() {
-        let some = read_some(&mut input, &mut room[done..]);
-        let Moved::Bytes(count) = some else {
-            return some;
-        };
+        let count = read_some(&mut input, &mut room[done..])?;
         if count == 0 {
-            return Moved::Bytes(done);
+            break;
         }
         done += count;
     }
-    Moved::Bytes(done)
+    Ok(done)
 }
 
 // Some bytes from the front of `part` on, to standard output.
-fn write_some(rt: &impl Print, part: &[u8]) -> Moved
+fn write_some(rt: &impl Print, part: &[u8]) -> io::Result<usize>
     ensures { Within result (length part.now) }
 {
-    let mut got = rt.write_some(part);
-    for _ in 1..PATIENCE {
-        if !interrupted(&got) {
-            break;
-        }
-        got = rt.write_some(part);
-    }
-    answered(got, part)
+    let count = patiently(|| rt.write_some(part))?;
+    Ok(count.min(part.len()))
 }
 
 // All of the text to standard output: `Ok` once every byte is out. Where it fails, the bytes before the failure are out.
-#[tactic(auto, unfolding(crate::specs::Moved::Within))]
 pub fn write(rt: &impl Print, text: &[u8]) -> io::Result<()> {
     let mut done = 0;
     while done < text.len() {
-        match write_some(rt, &text[done..]) {
-            Moved::Bytes(0) => return Err(Error::from(ErrorKind::WriteZero)),
-            Moved::Bytes(count) => done += count,
-            Moved::Failed(why) => return Err(why),
+        match write_some(rt, &text[done..])? {
+            0 => return Err(Error::from(ErrorKind::WriteZero)),
+            count => done += count,
         }
     }
     Ok(())

@@ -4,7 +4,7 @@
 // Example: `tick 3: a 0, b 1, match 1`.
 #![tactic(auto)]
 
-ghost use Rattle.std.specs.Prelude.{◌≤◌, length};
+use meaning::TickRefusal;
 
 // Node 0 is a, 1 is b, 2 is node 1 [->2], and 3 is node 0 ##1 node 2.
 const TREE: [u32; 20] = [1, 0, 0, 0, 0, 1, 1, 0, 0, 0, 4, 1, 0, 2, 2, 2, 0, 2, 1, 1];
@@ -15,12 +15,12 @@ fn say_number(word: &[u8], n: u64) {
     io::print_decimal(1, n);
 }
 
-fn say_answer(answer: meaning::Ticked) {
+fn say_answer(answer: Result<u8, TickRefusal>) {
     match answer {
-        meaning::Ticked::Match(bit) => say_number(b", match ", bit as u64),
-        meaning::Ticked::Refused(number, place) => {
-            say_number(b", refused ", number as u64);
-            say_number(b" ", place as u64);
+        Ok(bit) => say_number(b", match ", u64::from(bit)),
+        Err(refusal) => {
+            say_number(b", refused ", u64::from(refusal.number()));
+            say_number(b" ", refusal.place() as u64);
         }
     }
 }
@@ -31,8 +31,8 @@ fn ticked(listing: &[u32], cur: [u8; 3], tick: u64, a: u8, b: u8) -> [u8; 3] {
     let mut stack = [0u8; 3];
     let atoms = [a, b];
     say_number(b"tick ", tick);
-    say_number(b": a ", a as u64);
-    say_number(b", b ", b as u64);
+    say_number(b": a ", u64::from(a));
+    say_number(b", b ", u64::from(b));
     say_answer(tick::tick(listing, &cur, &atoms, &mut next, &mut stack));
     io::write_all(1, b"\n");
     next
@@ -49,23 +49,16 @@ fn trace(listing: &[u32]) {
     ticked(listing, at_4, 4, 0, 1);
 }
 
-// The lowering of the tree; how many words its listing has. A refused tree would have none, which no tick takes.
-fn lowered(work: &mut [u32], out: &mut [u32]) -> usize
-    ensures { result ≤ length out.new }
-{
-    let answer = lower::lower(&TREE, work, out);
-    let meaning::Lowered::Listing(_, words, _) = answer else {
-        return 0;
-    };
-    if out.len() < words {
-        return 0;
+// The lowering of the tree, as a part of the output. A refused tree would have no words, which no tick takes.
+fn lowered<'a>(work: &mut [u32], out: &'a mut [u32]) -> &'a [u32] {
+    match lower::lower(&TREE, work, out) {
+        Ok(listing) => out.get(..listing.words).unwrap_or(&[]),
+        Err(_) => &[],
     }
-    words
 }
 
 fn main() {
     let mut work = [0u32; 64];
     let mut out = [0u32; 64];
-    let words = lowered(&mut work, &mut out);
-    trace(&out[..words]);
+    trace(lowered(&mut work, &mut out));
 }

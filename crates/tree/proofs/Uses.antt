@@ -1,43 +1,23 @@
 -- The list that counts all nodes' uses in one pass holds for each node what the specification's count of its uses comes to, up to 2: so
 -- that it is 1 where the node is used once.
 use mathlib.Core.Path.{◌≡◌, refl, sym, ◌∙◌}
-use mathlib.Core.Bool.{Bool, true, false, not}
+use mathlib.Core.Bool.{Bool, true, false}
 use mathlib.Core.List.{List}
-use Prim.Native.Nat.{ℕ, zero, suc, ◌+◌, ◌<◌, ◌≤◌}
+use Prim.Native.Nat.{ℕ, zero, suc, ◌+◌, ◌<◌}
 use native.Mathlib.Omega.{arith}
-use native.Mathlib.Numerals.{add-one}
 use native.Mathlib.Decide.{ℕ_discrete}
 use lib.Dec.{eqb, leb}
 use lib.ListN.{length, get_or, set, length-set}
 use lib.Seq.{get_or-set_same, get_or-set_other}
-use borrow.Author.Tests.{not-true, not-false, eq-eqb, ne_eqb, le-leb, lt-leb}
+use borrow.Author.Tests.{eq-eqb, ne_eqb}
 use Rattle.words.specs.Choice.{pick, pick_case, pick_yes, pick_no}
 use Rattle.meaning.specs.Tree.{node_at}
-use Rattle.meaning.specs.Kinds.{columns, is_operand}
 use Rattle.meaning.specs.Refusals.{uses_p, uses_q, uses_in, uses}
-use Rattle.meaning.specs.declared.Columns.{Columns}
 use Rattle.meaning.specs.declared.Node.{Node}
 use Rattle.tree.specs.Uses.{use_if, use_operands, used_by, OperandsWithin, AllOperandsWithin}
 
--- One use, as the code meets it.
-module _ (used : List ℕ) (operand : Bool) (k : ℕ) where
-  pub no_operand : not operand ≡ true → used ≡ use_if used operand k
-  unfolding use_if
-  no_operand e = pick_no _ (not-true operand e) refl
-
-  pub used_enough : not operand ≡ false → 2 ≤ get_or used k 0 → used ≡ use_if used operand k
-  unfolding use_if
-  used_enough e h = pick_yes _ (not-false operand e) (pick_yes _ (le-leb _ _ h) refl)
-
-  pub used_more : not operand ≡ false → get_or used k 0 < 2 → set used k (get_or used k 0 + 1) ≡ use_if used operand k
-  unfolding use_if
-  used_more e h = pick_yes _ (not-false operand e) (pick_no _ (lt-leb _ _ h) refl)
-
-  pub operand_within : not operand ≡ false → (operand ≡ true → k < length used) → k < length used
-  operand_within e h = h (not-false operand e)
-
 -- The list keeps its length.
-pub length-use_if : (used : List ℕ) (operand : Bool) (k : ℕ) → length (use_if used operand k) ≡ length used
+length-use_if : (used : List ℕ) (operand : Bool) (k : ℕ) → length (use_if used operand k) ≡ length used
 unfolding use_if
 length-use_if used operand k =
     pick_case (λ (l : List ℕ). length l ≡ length used) operand
@@ -100,7 +80,7 @@ length-use_operands : (used : List ℕ) (v : Node) → length (use_operands used
 unfolding use_operands
 length-use_operands used v = length-use_if (use_if used (uses_p v) v.p) (uses_q v) v.q ∙ length-use_if used (uses_p v) v.p
 
-pub length-used_by : (t : List ℕ) (count : ℕ) (used : List ℕ) → length (used_by t count used) ≡ length used
+length-used_by : (t : List ℕ) (count : ℕ) (used : List ℕ) → length (used_by t count used) ≡ length used
 unfolding used_by
 length-used_by t zero used = refl
 length-used_by t (suc count) used = length-use_operands (used_by t count used) (node_at t count) ∙ length-used_by t count used
@@ -118,44 +98,3 @@ used_by_counts t used k (suc count) within none =
 pub once_counted : (t : List ℕ) (used : List ℕ) (k count : ℕ) → AllOperandsWithin (length used) t count → get_or used k 0 ≡ 0
     → eqb (get_or (used_by t count used) k 0) 1 ≡ eqb (uses t k count) 1
 once_counted t used k count within none = rw (used_by_counts t used k count within.each none) (once_up_to_2 (uses t k count))
-
--- The two operands of a node, as the code makes it from its row of the table of kinds.
-module _ (used : List ℕ) (v : Node) {is : Columns} (e : is ≡ columns v.kind) {l : Bool} (p : l ≡ is_operand is.p) where
-  pub left_within : OperandsWithin (length used) v → l ≡ true → v.p < length used
-  left_within within u = within.left (rw (← e) (sym p ∙ u))
-
-  module _ {used' : List ℕ} (u : used' ≡ use_if used l v.p) {r : Bool} (q : r ≡ is_operand is.q) where
-    pub right_within : OperandsWithin (length used) v → r ≡ true → v.q < length used'
-    right_within within h = rw (u, length-use_if used l v.p) (within.right (rw (← e) (sym q ∙ h)))
-
-    pub used_both : {used'' : List ℕ} → used'' ≡ use_if used' r v.q → used'' ≡ use_operands used v
-    unfolding use_operands
-    used_both u' = u' ∙ rw (u, p, q, e) refl
-
--- The pass over the nodes, as the code makes it.
-pub record UsingNodes (t used₀ used : List ℕ) (count n : ℕ) : Type 0 where
-  pub turn : n ≤ count
-  pub long : length used ≡ length used₀
-  pub holds : used ≡ used_by t n used₀
-
--- At first no node is counted.
-pub using_begins : (t used : List ℕ) (count : ℕ) → UsingNodes t used used count 0
-unfolding used_by
-using_begins t used count = record { turn = omega arith; long = refl; holds = refl }
-
-module _ {t used₀ used : List ℕ} {count n : ℕ} {v : Node} (g : UsingNodes t used₀ used count n) (h : n < count) (w : v ≡ node_at t n) where
-  pub using_on : {used' : List ℕ} → used' ≡ use_operands used v → UsingNodes t used₀ used' count (n + 1)
-  unfolding used_by
-  using_on e = record {
-    turn = omega arith;
-    long = rw e (length-use_operands used v) ∙ g.long;
-    holds = rw (add-one n, ← g.holds, ← w) e;
-  }
-
-  -- The next node's operands have a place in the list.
-  pub using_within : AllOperandsWithin (length used₀) t count → OperandsWithin (length used) v
-  using_within within = rw (g.long, w) (within.each n h)
-
--- At the end the uses of all nodes are in the list.
-pub using_ends : {t used₀ used : List ℕ} {count n : ℕ} → UsingNodes t used₀ used count n → count ≤ n → used ≡ used_by t count used₀
-using_ends {count = count} {n = n} g h = let e : count ≡ n = omega (arith, g.turn) in rw e g.holds

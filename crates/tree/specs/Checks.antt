@@ -1,14 +1,11 @@
--- The tests of 1, 2 and 3 by the refusal's number, and what they start from (SPECIFICATION, "Refusals").
--- Example: of the table 1,0,0,0,0 `passes 1` and `passes 3` hold at node 0.
-use Rattle.std.specs.Prelude.{Bool, ◌≡◌, List, ℕ, ◌%◌, ◌≤◌, eqb, length, get_or, replicate}
-use Rattle.words.specs.Choice.{pick}
-use Rattle.meaning.specs.Tree.{node_at, nodes}
-use Rattle.meaning.specs.Refusals.{formed_node, range_node}
+-- What the checks 1, 2 and 3 start from (SPECIFICATION, "Refusals").
+-- Example: the table 1,0,0,0,0 of one node is checkable with a list of one 0.
+use Rattle.std.specs.Prelude.{◌≡◌, List, ℕ, ◌%◌, ◌≤◌, ◌<◌, length, replicate}
+use Rattle.meaning.specs.Tree.{nodes}
 
--- Whether node n of the table passes the refusal, 2 by the list of all nodes' uses.
-unfoldable pub passes : ℕ → List ℕ → List ℕ → ℕ → Bool
-passes refusal t used n =
-    let v = node_at t n in pick (eqb refusal 2) (eqb (get_or used n 0) 1) (pick (eqb refusal 1) (formed_node n v) (range_node v))
+-- Below count, what a call may answer is what f does.
+abbrev pub AnswersAs : {A : Type 0} → ℕ → (ℕ → A → Type 0) → (ℕ → A) → Type 0
+AnswersAs {A} count answers f = (n : ℕ) (a : A) → n < count → answers n a → a ≡ f n
 
 -- A table of count nodes, and a cleared list in which each node has a place.
 pub record Checkable (t used : List ℕ) (count : ℕ) : Type 0 where

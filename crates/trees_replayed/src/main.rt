@@ -13,40 +13,25 @@
 
 ghost use Rattle.std.specs.Prelude.{◌≤◌, length};
 
+use meaning::{Listing, Refusal};
+
 // What lent words are filled with: not zero, and no word of a listing.
 const FILLED: u32 = 0x5a5a_5a5a;
-
-// Whether the word stands at every place from `from` on.
-fn only(word: u32, words: &[u32], from: usize) -> bool {
-    let mut i = from;
-    while i < words.len() {
-        if words[i] != word {
-            return false;
-        }
-        i += 1;
-    }
-    true
-}
 
 // Says what is not as promised: work is all zero, the output past the words written is as it was, and the words written are a listing as
 // described.
 fn inspect(words: usize, work: &[u32], out: &[u32])
     requires { words ≤ length out.now }
 {
-    if !only(0, work, 0) {
+    if work.iter().any(|word| *word != 0) {
         io::write_all(1, b"work left filled\n");
     }
-    if !only(FILLED, out, words) {
+    if out[words..].iter().any(|word| *word != FILLED) {
         io::write_all(1, b"output changed\n");
     }
-    if words == 0 {
-        return;
-    }
-    let checked = listing::checked(&out[..words]);
-    let meaning::Checked::Described = checked else {
+    if words != 0 && listing::checked(&out[..words]).is_err() {
         io::write_all(1, b"listing not as described\n");
-        return;
-    };
+    }
 }
 
 // A number, and what stands behind it.
@@ -56,24 +41,23 @@ fn say(number: usize, end: &[u8]) {
 }
 
 // The first line of a listing's text.
-fn say_counts(answer: meaning::Lowered) {
-    let meaning::Lowered::Listing(registers, words, deepest) = answer else {
-        return;
-    };
+fn say_counts(listing: Listing) {
     io::write_all(1, b"ok ");
-    say(registers, b" ");
-    say(words, b" ");
-    say(deepest, b"\n");
+    say(listing.registers, b" ");
+    say(listing.words, b" ");
+    say(listing.deepest, b"\n");
 }
 
 // The answer's text; of a listing that is too long for the page, its first line.
-fn show(answer: meaning::Lowered, out: &[u32]) {
+fn show(answer: Result<Listing, Refusal>, out: &[u32]) {
     let mut page = [0u8; 524416];
-    let text::Printed::Text(end) = text::text(answer, out, &mut page) else {
-        say_counts(answer);
-        return;
-    };
-    io::write_all(1, &page[..end]);
+    match (text::text(answer, out, &mut page), answer) {
+        (Some(end), _) => {
+            io::write_all(1, &page[..end]);
+        }
+        (None, Ok(listing)) => say_counts(listing),
+        (None, Err(_)) => {}
+    }
 }
 
 // A tree's answer, shown once what was lent has been looked at.
@@ -82,10 +66,10 @@ fn lowered(tree: &[u32], work: &mut [u32], out: &mut [u32]) {
     let words = text::words_listed(answer);
     if out.len() < words {
         io::write_all(1, b"listing longer than the output\n");
-        return;
+    } else {
+        inspect(words, work, out);
+        show(answer, out);
     }
-    inspect(words, work, out);
-    show(answer, out);
 }
 
 // A case's numbers, with the work and the output that it asks for, as far as there are. The numbers have room for 4,097 nodes, one more
@@ -93,18 +77,13 @@ fn lowered(tree: &[u32], work: &mut [u32], out: &mut [u32]) {
 fn replay_tree(line: &[u8], work: &mut [u32], out: &mut [u32]) {
     let mut numbers = [0u32; 20487];
     let count = cases::numbers(line, &mut numbers);
-    let first = 2;
-    if count < first {
+    let [work_asked, out_asked, tree @ ..] = &numbers[..count] else {
         io::write_all(1, b"no tree\n");
         return;
-    }
-    let work_end = cases::lesser(numbers[0], work.len());
-    let out_end = cases::lesser(numbers[1], out.len());
-    lowered(
-        &numbers[first..count],
-        &mut work[..work_end],
-        &mut out[..out_end],
-    );
+    };
+    let work_end = cases::lesser(*work_asked, work.len());
+    let out_end = cases::lesser(*out_asked, out.len());
+    lowered(tree, &mut work[..work_end], &mut out[..out_end]);
 }
 
 // A case's numbers, with work for more entries than are ever taken, and the output for the longest listing of the cases.
@@ -114,36 +93,8 @@ fn replay_filled(line: &[u8]) {
     replay_tree(line, &mut work, &mut out);
 }
 
-// A line: to be skipped, or a case's name, or its numbers; whether numbers are to come.
-fn replay_line(line: &[u8], named: bool) -> bool {
-    if line.len() == 0 {
-        return named;
-    }
-    if line[0] == b'#' {
-        return named;
-    }
-    if named {
-        replay_filled(line);
-        return false;
-    }
-    io::write_all(1, line);
-    io::write_all(1, b"\n");
-    true
-}
-
-// Every line, in turn.
-fn replay(input: &[u8]) {
-    let mut named = false;
-    let mut from = 0;
-    while from < input.len() {
-        let end = cases::until(input, from, b'\n');
-        named = replay_line(&input[from..end], named);
-        from = end + 1;
-    }
-}
-
 fn main() {
     let mut input = [0u8; 1572864];
     let count = io::read_full(0, &mut input);
-    replay(&input[..count]);
+    replay::each_case(&input[..count], replay_filled);
 }

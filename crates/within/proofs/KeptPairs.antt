@@ -1,38 +1,47 @@
--- A pair that was kept beside its row, as the passes meet it: what is read of it is the pair of seq1's alternative y with the delays that fit.
+-- A pair that is held beside its row, as the passes meet it: what is read of it is the pair of seq1's alternative with the delays that fit.
 use mathlib.Core.Path.{◌≡◌, refl, ap, ◌∙◌}
-use mathlib.Core.List.{List}
+use mathlib.Core.List.{List, [], ◌∷◌}
 use Prim.Native.Nat.{ℕ, ◌+◌, ◌≤◌}
 use native.Mathlib.Omega.{arith}
+use lib.Dec.{leb}
+use lib.ListN.{length}
+use Rattle.words.specs.Choice.{pick_case}
 use Rattle.meaning.specs.Alternative.{SeqAlt}
-use Rattle.alternative.specs.Keeping.{kept_text, Ended}
+use Rattle.meaning.specs.Root.{window_len}
+use Rattle.alternative.proofs.Laws.{kept_texts}
 use Rattle.pair.specs.declared.Pair.{Pair}
-use Rattle.pair.specs.Pairs.{Fitted, pair_registers, pair_stores, pair_text, kept_pair_registers, kept_pair_stores, kept_pair_text, PlacedPair, longest_window}
+use Rattle.pair.specs.Pairs.{Fitted, pair_registers, pair_stores, pair_text, kept_pair_registers, kept_pair_stores, kept_pair_text, PlacedPair}
 use Rattle.pair.proofs.Pairs.{registers_of_pair, stores_of_pair, text_of_pair, placed_pair}
-use Rattle.within.specs.declared.Row.{Row}
-use Rattle.within.specs.AllPairs.{fit}
-use Rattle.within.specs.Rows.{Beside}
+use Rattle.alternative.specs.Alternatives.{text_in}
+use Rattle.within.specs.AllPairs.{fitting, beside}
+use Rattle.within.specs.Walk.{Steps, PairHeld}
 
-module _ {y : SeqAlt} {row : Row} {r : ℕ} {before after : List ℕ} {pair : Pair} (B : Beside y row r before after pair) where
-  same_fit : record { alternative = y; delays = pair.delays } ≡ fit row.window y
-  same_fit = rw B.delays refl
+module _ {S : Type 0} {P : Steps S} {work : List ℕ} {pair : Pair} {s : S × List ℕ} {y : SeqAlt} {f : Fitted} (H : PairHeld P work pair s y f) where
+  same_fit : record { alternative = f.alternative; delays = pair.delays } ≡ f
+  same_fit = ap (λ (d : ℕ). record f { delays = d }) H.delays
 
-  pub beside_delays : row.window ≤ longest_window → pair.delays ≤ longest_window
-  beside_delays low = omega (arith, B.delays)
+  pub held_registers : kept_pair_registers work pair ≡ pair_registers f
+  held_registers = registers_of_pair pair H.one ∙ ap pair_registers same_fit
 
-  pub beside_registers : kept_pair_registers after pair ≡ pair_registers (fit row.window y)
-  beside_registers = registers_of_pair pair B.keeps.holds ∙ ap pair_registers same_fit
+  pub held_next : pair.one.register + kept_pair_registers work pair ≡ P.register s.0 + pair_registers f
+  held_next = omega (arith, H.one.register, held_registers)
 
-  pub beside_next : pair.one.register + kept_pair_registers after pair ≡ r + pair_registers (fit row.window y)
-  beside_next = omega (arith, B.keeps.holds.register, beside_registers)
+  pub held_placed : P.register s.0 + pair_registers f ≤ 65536 → PlacedPair work pair
+  held_placed small = placed_pair pair H.one (rw same_fit small)
 
-  pub beside_placed : r + pair_registers (fit row.window y) ≤ 65536 → PlacedPair after pair
-  beside_placed small = placed_pair pair B.keeps.holds (rw same_fit small)
+  pub held_stores : kept_pair_stores work pair ≡ pair_stores f (P.register s.0)
+  held_stores = stores_of_pair pair H.one ∙ ap (λ (g : Fitted). pair_stores g (P.register s.0)) same_fit
 
-  pub beside_stores : kept_pair_stores after pair ≡ pair_stores (fit row.window y) r
-  beside_stores = stores_of_pair pair B.keeps.holds ∙ ap (λ (f : Fitted). pair_stores f r) same_fit
+  pub held_text : (words : ℕ) → kept_pair_text work pair words ≡ pair_text words (text_in y pair.two.register) f (P.register s.0)
+  held_text words =
+      text_of_pair pair H.one words ∙ rw (kept_texts H.two, same_fit) refl
 
-  pub beside_text : (words : ℕ) → kept_pair_text after pair words ≡ pair_text words (kept_text after row.two) (fit row.window y) r
-  beside_text words = text_of_pair pair B.keeps.holds words ∙ rw (B.two, same_fit) refl
+-- No more pairs are beside a row than seq1 has alternatives.
+few_fit : (l : ℕ) (xs : List SeqAlt) → length (fitting l xs) ≤ length xs
+unfolding fitting
+few_fit l [] = omega arith
+few_fit l (x ∷ xs) =
+    pick_case (λ (fs : List Fitted). length fs ≤ length (x ∷ xs)) (leb (window_len x.steps) l) (λ yes. omega (arith, few_fit l xs)) (λ no. omega (arith, few_fit l xs))
 
-  pub beside_ended : {x : ℕ} → Ended after row.two x → Ended after pair.two x
-  beside_ended E = rw B.two E
+pub few_beside : (xs : List SeqAlt) (y : SeqAlt) → length (beside xs y) ≤ length xs
+few_beside xs y = few_fit (window_len y.steps) xs

@@ -1,7 +1,7 @@
 -- A root within, pair by pair: "goes through the alternatives of seq2, and with each of them through those of seq1". So code can write its listing with
 -- one alternative of seq2 and one of seq1 at hand.
 -- Example: `(a ##2 b) within (a ##1 c)` has no pair. Seq2's alternative still stores `a0 any seq0`, and the match is 0.
-use Rattle.std.specs.Prelude.{List, [], ◌∷◌, ◌++◌, ℕ, zero, suc, ◌+◌, ◌-◌, eqb, leb, length, get_or}
+use Rattle.std.specs.Prelude.{List, [], ◌∷◌, ◌++◌, ℕ, ◌+◌, ◌-◌, eqb, leb, length}
 use Rattle.words.specs.Choice.{pick}
 use Rattle.meaning.specs.Alternative.{SeqAlt}
 use Rattle.meaning.specs.Root.{window_len, synth_within}
@@ -17,11 +17,6 @@ fit l y = record { alternative = y; delays = l - window_len y.steps }
 unfoldable pub fitting : ℕ → List SeqAlt → List Fitted
 fitting l [] = []
 fitting l (y ∷ ys) = let more = fitting l ys in pick (leb (window_len y.steps) l) (fit l y ∷ more) more
-
--- The lowest number from j on, of so many, whose window is not above l; where there is none, the number behind the last.
-unfoldable pub fits_from : List ℕ → ℕ → ℕ → ℕ → ℕ
-fits_from windows l j zero = j
-fits_from windows l j (suc count) = let more = fits_from windows l (suc j) count in pick (leb (get_or windows j 0) l) j more
 
 -- The pairs of one alternative of seq2, whose text is match-2; so many words of the match stand before.
 unfoldable pub pairs_registers : List Fitted → ℕ

@@ -1,3 +1,5 @@
 pub mod AllPairs
 pub mod AllSizes
 pub mod Rows
+pub mod Walk
+pub mod Passes

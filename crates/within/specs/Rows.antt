@@ -1,6 +1,6 @@
 -- What the passes over the rows and their pairs ask for: room in work for one alternative of seq2, a row, and one of seq1 behind it.
 -- Example: for `(a ##1 b) within (c ##1 d ##1 e)` the fifteen words of seq2's steps stand in front, the ten of seq1's behind.
-use Rattle.std.specs.Prelude.{ℕ, ◌+◌, ◌-◌, ◌≤◌, ◌<◌, ◌≡◌, List, length, get_or}
+use Rattle.std.specs.Prelude.{ℕ, ◌+◌, ◌≤◌, ◌<◌, ◌≡◌, List, length, get_or}
 use Rattle.meaning.specs.Alternative.{SeqAlt}
 use Rattle.meaning.specs.Tree.{tree_at, nodes}
 use Rattle.meaning.specs.Refusals.{room_of}
@@ -8,14 +8,12 @@ use Rattle.meaning.specs.Root.{window_len}
 use Rattle.meaning.specs.Lowerable.{FormedTable, Walkable, Pairable}
 use Rattle.outline.specs.Outline.{Known}
 use Rattle.expand.specs.ByNumber.{alternatives_of, nth}
-use Rattle.sizes.specs.Sizes.{Countable}
-use Rattle.alternative.specs.Alternatives.{registers_in}
-use Rattle.alternative.specs.Keeping.{kept_text, Keepable, Holds, Keeps}
+use Rattle.alternative.specs.Keeping.{Keepable, Holds, Keeps}
 use Rattle.pair.specs.declared.Pair.{Pair}
-use Rattle.pair.specs.declared.Mark.{Mark}
-use Rattle.pair.specs.Pairs.{Fitted, Marked, longest_window}
+use Rattle.pair.specs.Pairs.{longest_window}
 use Rattle.within.specs.declared.Row.{Row}
-use Rattle.within.specs.AllPairs.{fit, fitting, pairs_registers, pairs_texts, all_registers}
+use Rattle.within.specs.declared.Operands.{Operands}
+use Rattle.within.specs.AllPairs.{fit, all_registers}
 
 -- Both operands of a root within that the table's checks and the walk let pass with so many words of work, and whose outlines
 -- are known.
@@ -39,37 +37,27 @@ pub record Windows (t windows : List ℕ) (n : ℕ) : Type 0 where
   pub long : length (alternatives_of t n) ≤ length windows
   pub each : (j : ℕ) → j < length (alternatives_of t n) → get_or windows j 0 ≡ window_len (nth (alternatives_of t n) j).steps
 
--- A row: the alternative y of seq2, kept with registers from r on, and room behind it for each alternative of seq1, which is node n.
-pub record Rowed (t o : List ℕ) (n : ℕ) (y : SeqAlt) (r : ℕ) (work : List ℕ) (row : Row) : Type 0 where
-  pub node : row.one ≡ n
+-- The alternatives of seq1 and of seq2.
+abbrev pub ones : Operands → List SeqAlt
+ones w = alternatives_of w.tree.now w.one
+
+abbrev pub twos : Operands → List SeqAlt
+twos w = alternatives_of w.tree.now w.two
+
+-- Such operands with seq1's windows, and so many words of work.
+pub record Ready (w : Operands) (work : ℕ) : Type 0 where
+  pub paired : Paired w.tree.now w.outline.now w.one w.two work
+  pub measured : Windows w.tree.now w.windows.now w.one
+
+-- A row: the alternative y of seq2, kept with registers from r on, and room behind it for each alternative of seq1.
+pub record Rowed (w : Operands) (y : SeqAlt) (r : ℕ) (work : List ℕ) (row : Row) : Type 0 where
   pub holds : Holds work row.two y r
   pub window : row.window ≡ window_len y.steps
   pub low : row.window ≤ longest_window
-  pub countable : registers_in y ≤ 65536 → Countable work row.two
-  pub room : Keepable t o n row.two.end (length work)
-
--- What a pass over a row's pairs asks for, whichever alternative of seq2 is kept and wherever its registers begin.
-pub record Rowing (t o windows : List ℕ) (row : Row) (work : List ℕ) : Type 0 where
-  pub alternative : SeqAlt
-  pub register : ℕ
-  pub holds : Holds work row.two alternative register
-  pub low : row.window ≤ longest_window
-  pub room : Keepable t o row.one row.two.end (length work)
-  pub measured : Windows t windows row.one
+  pub room : Keepable w.tree.now w.outline.now w.one row.two.end (length work)
 
 -- The alternative y of seq1, kept behind the row's with registers from r on: their pair.
 pub record Beside (y : SeqAlt) (row : Row) (r : ℕ) (before after : List ℕ) (pair : Pair) : Type 0 where
   pub keeps : Keeps y r before after row.two.end pair.one
   pub two : pair.two ≡ row.two
   pub delays : pair.delays ≡ (fit row.window y).delays
-
--- The pairs of a row, and the words of their texts; the match begins at `start`.
-abbrev pub pairs_of : List ℕ → Row → List Fitted
-pairs_of t row = fitting row.window (alternatives_of t row.one)
-
-abbrev pub texts_of : List ℕ → List ℕ → Row → ℕ → Mark → List ℕ
-texts_of t work row start from = pairs_texts (from.place - start) (kept_text work row.two) (pairs_of t row) from.register
-
--- The words of these pairs were put from the mark on, and their registers taken.
-abbrev pub Onward : List ℕ → List ℕ → Mark → Mark → List ℕ → List Fitted → Type 0
-Onward before after from m words fs = Marked before after from.place m words (from.register + pairs_registers fs)

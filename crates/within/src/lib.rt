@@ -1,6 +1,7 @@
 // A root within (`synth_within` of the source): every alternative of seq2, and beside it every alternative of seq1 that fits.
-// Alternatives are numbered and never stored together: each pass keeps one of seq2 in front of work, a row, and behind it one of seq1 after the
-// other. So no expression is stored, and nothing is written into the output before its size is known.
+// Alternatives are numbered and never stored together: a walk keeps one of seq2 in front of work, a row, and behind it one of seq1 after the
+// other. So no expression is stored, and nothing is written into the output before its size is known. Four passes take that walk, one for the
+// registers, one for the words, one for the assignments and one for the match.
 // Only the windows of seq1's alternatives are stored, measured once in each call: where few of up to 256 pairs fit, the others are skipped before
 // they are kept.
 //
@@ -8,132 +9,291 @@
 // `a0 any seq1`, then `r0 a2 any and a0 any r1 or and`, and end the match.
 #![tactic(auto)]
 
-ghost use Rattle.std.specs.Prelude.{◌≡◌, ◌+◌, ◌-◌, ◌*◌, ◌≤◌, ◌<◌, length, get_or};
+ghost use Rattle.std.specs.Prelude.{◌≡◌, ◌+◌, ◌≤◌, ◌<◌, leb, length, get_or};
 ghost use Rattle.words.specs.Written.{Wrote};
+ghost use Rattle.sizes.specs.Sizes.{Countable};
 ghost use Rattle.expand.specs.ByNumber.{alternatives_of};
-ghost use Rattle.alternative.specs.Keeping.{chosen, Keepable, Ended};
-ghost use Rattle.pair.specs.Pairs.{most_pair_registers};
-ghost use Rattle.pair.specs.Sizes.{longest_text};
-ghost use Rattle.within.specs.AllPairs.{fits_from, pairs_registers, pairs_stores, all_registers, all_stores, all_texts, within_match, within_words};
-ghost use Rattle.within.specs.AllSizes.{plus, pairs_size, all_size, match_size, longest_match, AtMost};
-ghost use Rattle.within.specs.Rows.{Paired, Numberable, Windows, Rowed, Rowing, Beside, pairs_of, texts_of, Onward};
+ghost use Rattle.alternative.specs.Alternatives.{registers_in};
+ghost use Rattle.alternative.specs.Keeping.{chosen, Keepable};
+ghost use Rattle.within.specs.AllPairs.{all_registers, within_match, within_words};
+ghost use Rattle.within.specs.AllSizes.{match_size, longest_match};
+ghost use Rattle.within.specs.Rows.{Paired, Numberable, Windows, Ready, Rowed, Beside, ones, twos};
+ghost use Rattle.within.specs.Walk.{Steps, RowGiven, RowDone, PairGiven, PairDone, over_rows, TakesRows};
+ghost use Rattle.within.specs.Passes.{register_steps, size_steps, store_steps, text_steps};
 
 use meaning::word;
+use term::Alternative;
 
-// One alternative of seq2, kept in front of work, with its window; and the node of seq1.
+// Both operands of a within: the tree, the outline of its nodes, and the windows of seq1's alternatives.
+#[derive(Clone, Copy)]
+struct Operands<'a> {
+    tree: &'a [u32],
+    outline: &'a [u32],
+    windows: &'a [u64],
+    one: u32,
+    two: u32,
+}
+
+// One alternative of seq2, kept in front of work, with its window.
 #[derive(Clone, Copy)]
 struct Row {
     two: term::Kept,
     window: u64,
-    one: u32,
 }
 
-// Puts the window of each alternative of seq1, by its number.
-fn put_windows(t: &[u32], outline: &[u32], one: u32, work: &mut [u32], windows: &mut [u64])
-    requires { Keepable t.now outline.now one 0 (length work.old) × (256 ≤ length windows.old) }
-    ensures { Windows t.now windows.new one }
-{
-    let count = outline::count_of(outline, one);
-    let mut j = 0;
-    while j < count {
-        let kept = alternative::keep(t, outline, one, j, 0, work, 0);
-        windows[j as usize] = pair::window_len(work, kept);
-        j += 1;
-    }
+// What a pass does where the walk comes to a row, and to each pair beside it.
+trait Pass: Copy {
+    ghost steps: { Steps Self };
+
+    // The register with which those of the next alternative begin.
+    fn register(self) -> u32
+        ensures { result ≡ steps.register self };
+
+    // At a row, before its pairs.
+    fn row(self, two: Alternative<'_>, out: &mut [u32]) -> Self
+        requires { RowGiven steps two.work.now two.kept (self, out.old) }
+        ensures { RowDone steps two.entry.work.now two.entry.kept (self, out.old) (result, out.new) };
+
+    // At a pair.
+    fn pair(self, work: &[u32], pair: pair::Pair, out: &mut [u32]) -> Self
+        requires { PairGiven steps work.now pair (self, out.old) }
+        ensures { PairDone steps work.now pair (self, out.old) (result, out.new) };
 }
 
-// The lowest number from j on of an alternative whose window is not above l, or how many there are.
-fn next_fitting(windows: &[u64], count: u32, l: u64, j: u32) -> u32
-    requires { (count ≤ length windows.now) × (j ≤ count) }
-    ensures { result ≡ fits_from windows.now l j (count - j) }
-{
-    let mut i = j;
-    while i < count {
-        if windows[i as usize] <= l {
-            return i;
+impl<'a> Operands<'a> {
+    // The operands `one` and `two`, with the window of each alternative of seq1, which it puts by its number.
+    fn measured(
+        tree: &'a [u32],
+        outline: &'a [u32],
+        one: u32,
+        two: u32,
+        work: &mut [u32],
+        windows: &'a mut [u64],
+    ) -> Operands<'a>
+        requires { Paired tree.now outline.now one two (length work.old) × (256 ≤ length windows.old) }
+        ensures ready { Ready result (length work.new) }
+        ensures ones { ones result ≡ alternatives_of tree.entry.now one }
+        ensures twos { twos result ≡ alternatives_of tree.entry.now two }
+    {
+        for j in 0..outline::count_of(outline, one) {
+            let kept = alternative::keep(tree, outline, one, j, 0, work, 0);
+            windows[j as usize] = pair::window_len(Alternative { work, kept });
         }
-        i += 1;
+        Operands {
+            tree,
+            outline,
+            windows,
+            one,
+            two,
+        }
     }
-    i
+
+    // Keeps the i-th alternative of seq2, with registers from r on.
+    fn row_of(self, i: u32, r: u32, work: &mut [u32]) -> Row
+        requires { Ready self (length work.old) × (i < length (twos self)) }
+        ensures rowed { Rowed self.entry (chosen self.entry.tree.now self.entry.two i) r work.new result }
+        ensures countable { registers_in (chosen self.entry.tree.now self.entry.two i) ≤ 65536 → Countable work.new result.two }
+        ensures long { length work.new ≡ length work.old }
+    {
+        let two = alternative::keep(self.tree, self.outline, self.two, i, r, work, 0);
+        Row {
+            two,
+            window: pair::window_len(Alternative { work, kept: two }),
+        }
+    }
+
+    // Keeps the j-th alternative of seq1, which fits, behind the row's, with registers from r on.
+    fn beside(self, row: Row, j: u32, r: u32, work: &mut [u32]) -> pair::Pair
+        requires room { Keepable self.tree.now self.outline.now self.one row.two.end (length work.old) }
+        requires fits { Windows self.tree.now self.windows.now self.one × (j < length (ones self)) × (get_or self.windows.now j 0 ≤ row.window) }
+        ensures { Beside (chosen self.entry.tree.now self.entry.one j) row r work.old work.new result }
+    {
+        pair::Pair {
+            one: alternative::keep(self.tree, self.outline, self.one, j, r, work, row.two.end),
+            two: row.two,
+            delays: row.window - self.windows[j as usize],
+        }
+    }
+
+    // Whether the j-th alternative of seq1 fits into the row's window.
+    fn fits(self, row: Row, j: u32) -> bool
+        requires { j < length self.windows.now }
+        ensures { result ≡ leb (get_or self.entry.windows.now j 0) row.window }
+    {
+        self.windows[j as usize] <= row.window
+    }
+
+    // Takes a pass over all rows, and over the pairs of each.
+    fn walk<P: Pass>(self, start: P, work: &mut [u32], out: &mut [u32]) -> P
+        requires { Ready self (length work.old) × TakesRows P.steps (ones self) (twos self) (start, out.old) }
+        ensures goes { (result, out.new) ≡ over_rows P.steps (ones self.entry) (twos self.entry) (start, out.old) }
+        ensures ends { P.steps.Ends (result, out.new) }
+    {
+        let mut pass = start;
+        let count = outline::count_of(self.outline, self.one);
+        for i in 0..outline::count_of(self.outline, self.two) {
+            let row = self.row_of(i, pass.register(), work);
+            let two = Alternative {
+                work,
+                kept: row.two,
+            };
+            pass = pass.row(two, out);
+            for j in 0..count {
+                if self.fits(row, j) {
+                    let pair = self.beside(row, j, pass.register(), work);
+                    pass = pass.pair(work, pair, out);
+                }
+            }
+        }
+        pass
+    }
+
+    // Puts the match: the texts of all pairs ORed, or 0 where none fits.
+    fn put_match(self, from: pair::Mark, work: &mut [u32], out: &mut [u32]) -> usize
+        requires numbered { Ready self (length work.old) × (from.register + all_registers (ones self) (twos self) ≤ 65536) }
+        requires room { from.place + length (within_match (ones self) (twos self) from.register) ≤ length out.old }
+        ensures { Wrote out.old out.new from.place result (within_match (ones self.entry) (twos self.entry) from.register) }
+    {
+        let pass = TextsPut {
+            start: from.place,
+            begin: from.register,
+            mark: from,
+        };
+        let end = self.walk(pass, work, out).mark.place;
+        if end == from.place {
+            return words::put(out, end, word::ZERO);
+        }
+        end
+    }
 }
 
-// Keeps the i-th alternative of seq2, with registers from r on.
-fn row_of(t: &[u32], outline: &[u32], one: u32, two: u32, i: u32, r: u32, work: &mut [u32]) -> Row
-    requires { Paired t.now outline.now one two (length work.old) × (i < length (alternatives_of t.now two)) }
-    ensures rowed { Rowed t.now outline.now one (chosen t.now two i) r work.new result }
-    ensures long { length work.new ≡ length work.old }
-{
-    let kept = alternative::keep(t, outline, two, i, r, work, 0);
-    let l = pair::window_len(work, kept);
-    Row {
-        two: kept,
-        window: l,
-        one: one,
+// Counts the registers.
+#[derive(Clone, Copy)]
+struct RegisterSum {
+    total: u64,
+}
+
+impl Pass for RegisterSum {
+    ghost steps = { register_steps };
+
+    fn register(self) -> u32 {
+        0
+    }
+
+    fn row(self, two: Alternative<'_>, _out: &mut [u32]) -> Self {
+        RegisterSum {
+            total: self.total + alternative::registers(two),
+        }
+    }
+
+    fn pair(self, work: &[u32], pair: pair::Pair, _out: &mut [u32]) -> Self {
+        RegisterSum {
+            total: self.total + pair::registers(work, pair),
+        }
     }
 }
 
-// Keeps the j-th alternative of seq1, which fits, behind the row's, with registers from r on.
-fn beside(
-    t: &[u32],
-    outline: &[u32],
-    windows: &[u64],
-    row: Row,
-    j: u32,
-    r: u32,
-    work: &mut [u32],
-) -> pair::Pair
-    requires { Rowing t.now outline.now windows.now row work.old × (j < length (alternatives_of t.now row.one)) × (get_or windows.now j 0 ≤ row.window) }
-    ensures { Beside (chosen t.now row.one j) row r work.old work.new result }
-{
-    let two = row.two;
-    let kept = alternative::keep(t, outline, row.one, j, r, work, two.end);
-    let d = row.window - windows[j as usize];
-    pair::Pair {
-        one: kept,
-        two: two,
-        delays: d,
+// Counts the words; a text of seq2 is counted once, for all pairs of its row.
+#[derive(Clone, Copy)]
+struct SizeSum {
+    total: sizes::Size,
+    text: u64,
+}
+
+impl Pass for SizeSum {
+    ghost steps = { size_steps };
+
+    fn register(self) -> u32 {
+        0
+    }
+
+    fn row(self, two: Alternative<'_>, _out: &mut [u32]) -> Self {
+        let own = alternative::size(two);
+        SizeSum {
+            total: sizes::Size {
+                stores: self.total.stores + own.stores,
+                ..self.total
+            },
+            text: own.text,
+        }
+    }
+
+    fn pair(self, work: &[u32], pair: pair::Pair, _out: &mut [u32]) -> Self {
+        let one = Alternative {
+            work,
+            kept: pair.one,
+        };
+        let more = pair::size(alternative::size(one), self.text, pair.delays);
+        SizeSum {
+            total: self.total + more,
+            ..self
+        }
     }
 }
 
-// The registers of the pairs of a row.
-fn pairs_registers(t: &[u32], outline: &[u32], windows: &[u64], row: Row, work: &mut [u32]) -> u64
-    requires { Rowing t.now outline.now windows.now row work.old }
-    ensures value { result ≡ pairs_registers (pairs_of t.now row) }
-    ensures small { result ≤ length (alternatives_of t.now row.one) * most_pair_registers }
-{
-    let count = outline::count_of(outline, row.one);
-    let mut total: u64 = 0;
-    let mut j = next_fitting(windows, count, row.window, 0);
-    while j < count {
-        let both = beside(t, outline, windows, row, j, 0, work);
-        total += pair::registers(work, both);
-        j = next_fitting(windows, count, row.window, j + 1);
-    }
-    total
+// Puts the assignments.
+#[derive(Clone, Copy)]
+struct StoresPut {
+    mark: pair::Mark,
 }
 
-// The registers of all rows and of their pairs.
-fn all_registers(
-    t: &[u32],
-    outline: &[u32],
-    windows: &[u64],
-    one: u32,
-    two: u32,
-    work: &mut [u32],
-) -> u64
-    requires { Paired t.now outline.now one two (length work.old) × Windows t.now windows.now one }
-    ensures { result ≡ all_registers (alternatives_of t.now one) (alternatives_of t.now two) }
-{
-    let count = outline::count_of(outline, two);
-    let mut total: u64 = 0;
-    let mut i = 0;
-    while i < count {
-        let row = row_of(t, outline, one, two, i, 0, work);
-        let own = alternative::registers(work, row.two);
-        total += own + pairs_registers(t, outline, windows, row, work);
-        i += 1;
+impl Pass for StoresPut {
+    ghost steps = { store_steps };
+
+    fn register(self) -> u32 {
+        self.mark.register
     }
-    total
+
+    fn row(self, two: Alternative<'_>, out: &mut [u32]) -> Self {
+        StoresPut {
+            mark: pair::Mark {
+                place: pipeline::stores(two, out, self.mark.place),
+                register: alternative::next_register(two),
+            },
+        }
+    }
+
+    fn pair(self, work: &[u32], pair: pair::Pair, out: &mut [u32]) -> Self {
+        StoresPut {
+            mark: pair::stores(work, pair, out, self.mark.place),
+        }
+    }
+}
+
+// Puts the texts of a match that begins at `start`. The registers of a row's pairs begin with `begin`, where those of the row end.
+#[derive(Clone, Copy)]
+struct TextsPut {
+    start: usize,
+    begin: u32,
+    mark: pair::Mark,
+}
+
+impl Pass for TextsPut {
+    ghost steps = { text_steps };
+
+    fn register(self) -> u32 {
+        self.mark.register
+    }
+
+    fn row(self, two: Alternative<'_>, _out: &mut [u32]) -> Self {
+        let next = alternative::next_register(two);
+        TextsPut {
+            begin: next,
+            mark: pair::Mark {
+                register: next,
+                ..self.mark
+            },
+            ..self
+        }
+    }
+
+    fn pair(self, work: &[u32], pair: pair::Pair, out: &mut [u32]) -> Self {
+        let place = self.mark.place;
+        TextsPut {
+            mark: pair::text(work, pair, self.begin, place - self.start, out, place),
+            ..self
+        }
+    }
 }
 
 // All registers of a within: those of seq2's alternatives, of seq1's in every pair that fits, and of the delays.
@@ -142,228 +302,8 @@ pub fn registers(t: &[u32], outline: &[u32], one: u32, two: u32, work: &mut [u32
     ensures { result ≡ all_registers (alternatives_of t.now one) (alternatives_of t.now two) }
 {
     let mut windows = [0u64; 256];
-    put_windows(t, outline, one, work, &mut windows);
-    all_registers(t, outline, &windows, one, two, work)
-}
-
-// Puts the assignments of the pairs of a row.
-fn pairs_stores(
-    t: &[u32],
-    outline: &[u32],
-    windows: &[u64],
-    row: Row,
-    from: pair::Mark,
-    work: &mut [u32],
-    out: &mut [u32],
-) -> pair::Mark
-    requires rowing { Rowing t.now outline.now windows.now row work.old × (from.register + pairs_registers (pairs_of t.now row) ≤ 65536) }
-    requires room { from.place + length (pairs_stores (pairs_of t.now row) from.register) ≤ length out.old }
-    ensures { Onward out.old out.new from result (pairs_stores (pairs_of t.now row) from.register) (pairs_of t.now row) }
-{
-    let count = outline::count_of(outline, row.one);
-    let mut m = from;
-    let mut j = next_fitting(windows, count, row.window, 0);
-    while j < count {
-        let both = beside(t, outline, windows, row, j, m.register, work);
-        m = pair::stores(work, both, out, m.place);
-        j = next_fitting(windows, count, row.window, j + 1);
-    }
-    m
-}
-
-// Puts all assignments of a within.
-fn put_stores(
-    t: &[u32],
-    outline: &[u32],
-    windows: &[u64],
-    one: u32,
-    two: u32,
-    from: pair::Mark,
-    work: &mut [u32],
-    out: &mut [u32],
-) -> usize
-    requires numberable { Numberable t.now outline.now one two from.register (length work.old) × Windows t.now windows.now one }
-    requires room { from.place + length (all_stores (alternatives_of t.now one) (alternatives_of t.now two) from.register) ≤ length out.old }
-    ensures { Wrote out.old out.new from.place result (all_stores (alternatives_of t.now one) (alternatives_of t.now two) from.register) }
-{
-    let count = outline::count_of(outline, two);
-    let mut m = from;
-    let mut i = 0;
-    while i < count {
-        let row = row_of(t, outline, one, two, i, m.register, work);
-        let p = pipeline::stores(work, row.two, out, m.place);
-        let r = alternative::next_register(work, row.two);
-        m = pairs_stores(
-            t,
-            outline,
-            windows,
-            row,
-            pair::Mark {
-                place: p,
-                register: r,
-            },
-            work,
-            out,
-        );
-        i += 1;
-    }
-    m.place
-}
-
-// Puts the texts of the pairs of a row. The match begins at `start`.
-fn pairs_texts(
-    t: &[u32],
-    outline: &[u32],
-    windows: &[u64],
-    row: Row,
-    start: usize,
-    from: pair::Mark,
-    work: &mut [u32],
-    out: &mut [u32],
-) -> pair::Mark
-    requires rowing { Rowing t.now outline.now windows.now row work.old × (from.register + pairs_registers (pairs_of t.now row) ≤ 65536) }
-    requires behind { Ended work.old row.two from.register }
-    requires room { (start ≤ from.place) × (from.place + length (texts_of t.now work.old row start from) ≤ length out.old) }
-    ensures { Onward out.old out.new from result (texts_of t.now work.old row start from) (pairs_of t.now row) }
-{
-    let count = outline::count_of(outline, row.one);
-    let mut m = from;
-    let mut j = next_fitting(windows, count, row.window, 0);
-    while j < count {
-        let both = beside(t, outline, windows, row, j, m.register, work);
-        m = pair::text(work, both, from.register, m.place - start, out, m.place);
-        j = next_fitting(windows, count, row.window, j + 1);
-    }
-    m
-}
-
-// Puts the texts of all pairs.
-fn all_texts(
-    t: &[u32],
-    outline: &[u32],
-    windows: &[u64],
-    one: u32,
-    two: u32,
-    from: pair::Mark,
-    work: &mut [u32],
-    out: &mut [u32],
-) -> usize
-    requires numberable { Numberable t.now outline.now one two from.register (length work.old) × Windows t.now windows.now one }
-    requires room { from.place + length (all_texts 0 (alternatives_of t.now one) (alternatives_of t.now two) from.register) ≤ length out.old }
-    ensures { Wrote out.old out.new from.place result (all_texts 0 (alternatives_of t.now one) (alternatives_of t.now two) from.register) }
-{
-    let count = outline::count_of(outline, two);
-    let start = from.place;
-    let mut m = from;
-    let mut i = 0;
-    while i < count {
-        let row = row_of(t, outline, one, two, i, m.register, work);
-        let r = alternative::next_register(work, row.two);
-        m = pairs_texts(
-            t,
-            outline,
-            windows,
-            row,
-            start,
-            pair::Mark {
-                place: m.place,
-                register: r,
-            },
-            work,
-            out,
-        );
-        i += 1;
-    }
-    m.place
-}
-
-// Puts the match of a within: its pairs ORed, or 0 where none fits.
-fn put_match(
-    t: &[u32],
-    outline: &[u32],
-    windows: &[u64],
-    one: u32,
-    two: u32,
-    from: pair::Mark,
-    work: &mut [u32],
-    out: &mut [u32],
-) -> usize
-    requires numberable { Numberable t.now outline.now one two from.register (length work.old) × Windows t.now windows.now one }
-    requires room { from.place + length (within_match (alternatives_of t.now one) (alternatives_of t.now two) from.register) ≤ length out.old }
-    ensures { Wrote out.old out.new from.place result (within_match (alternatives_of t.now one) (alternatives_of t.now two) from.register) }
-{
-    let at = from.place;
-    let p = all_texts(t, outline, windows, one, two, from, work, out);
-    if p == at {
-        return words::put(out, at, word::ZERO);
-    }
-    p
-}
-
-// Two sizes together, text and stores apart.
-fn plus(a: sizes::Size, b: sizes::Size) -> sizes::Size
-    requires { (a.text + b.text ≤ 18446744073709551615) × (a.stores + b.stores ≤ 18446744073709551615) }
-    ensures { result ≡ plus a b }
-{
-    sizes::Size {
-        text: a.text + b.text,
-        stores: a.stores + b.stores,
-    }
-}
-
-// The words of the pairs of a row, beside a text of seq2 of so many words.
-fn pairs_size(
-    t: &[u32],
-    outline: &[u32],
-    windows: &[u64],
-    row: Row,
-    text: u64,
-    work: &mut [u32],
-) -> sizes::Size
-    requires { Rowing t.now outline.now windows.now row work.old × (pairs_registers (pairs_of t.now row) ≤ 65536) × (text ≤ longest_text) }
-    ensures value { result ≡ pairs_size text (pairs_of t.now row) }
-    ensures small { AtMost (length (alternatives_of t.now row.one)) result }
-{
-    let count = outline::count_of(outline, row.one);
-    let mut total = sizes::Size { text: 0, stores: 0 };
-    let mut j = next_fitting(windows, count, row.window, 0);
-    while j < count {
-        let both = beside(t, outline, windows, row, j, 0, work);
-        let own = alternative::size(work, both.one);
-        total = plus(total, pair::size(own, text, both.delays));
-        j = next_fitting(windows, count, row.window, j + 1);
-    }
-    total
-}
-
-// The words of all rows and of their pairs.
-fn all_size(
-    t: &[u32],
-    outline: &[u32],
-    windows: &[u64],
-    one: u32,
-    two: u32,
-    work: &mut [u32],
-) -> sizes::Size
-    requires { Numberable t.now outline.now one two 0 (length work.old) × Windows t.now windows.now one }
-    ensures value { result ≡ all_size (alternatives_of t.now one) (alternatives_of t.now two) }
-    ensures small { AtMost 512 result }
-{
-    let count = outline::count_of(outline, two);
-    let mut total = sizes::Size { text: 0, stores: 0 };
-    let mut i = 0;
-    while i < count {
-        let row = row_of(t, outline, one, two, i, 0, work);
-        let own = alternative::size(work, row.two);
-        let pairs = pairs_size(t, outline, windows, row, own.text, work);
-        let stores = sizes::Size {
-            text: 0,
-            stores: own.stores,
-        };
-        total = plus(total, plus(stores, pairs));
-        i += 1;
-    }
-    total
+    let operands = Operands::measured(t, outline, one, two, work, &mut windows);
+    operands.walk(RegisterSum { total: 0 }, work, &mut []).total
 }
 
 // The words of the match, from those of its pairs with all their ORs.
@@ -384,10 +324,13 @@ pub fn word_count(t: &[u32], outline: &[u32], one: u32, two: u32, work: &mut [u3
     ensures { result ≡ length (within_words (alternatives_of t.now one) (alternatives_of t.now two) 0) }
 {
     let mut windows = [0u64; 256];
-    put_windows(t, outline, one, work, &mut windows);
-    let s = all_size(t, outline, &windows, one, two, work);
-    let text = match_size(s.text);
-    s.stores + (text + 1)
+    let operands = Operands::measured(t, outline, one, two, work, &mut windows);
+    let pass = SizeSum {
+        total: sizes::Size { text: 0, stores: 0 },
+        text: 0,
+    };
+    let total = operands.walk(pass, work, &mut []).total;
+    total.stores + (match_size(total.text) + 1)
 }
 
 // The whole listing, from the front of the output on; how many words it has.
@@ -404,32 +347,17 @@ pub fn write(
     ensures { Wrote out.old out.new 0 result (within_words (alternatives_of t.now one) (alternatives_of t.now two) first) }
 {
     let mut windows = [0u64; 256];
-    put_windows(t, outline, one, work, &mut windows);
-    let a = put_stores(
-        t,
-        outline,
-        &windows,
-        one,
-        two,
-        pair::Mark {
+    let operands = Operands::measured(t, outline, one, two, work, &mut windows);
+    let stores = StoresPut {
+        mark: pair::Mark {
             place: 0,
             register: first,
         },
-        work,
-        out,
-    );
-    let b = put_match(
-        t,
-        outline,
-        &windows,
-        one,
-        two,
-        pair::Mark {
-            place: a,
-            register: first,
-        },
-        work,
-        out,
-    );
-    words::put(out, b, word::MATCH)
+    };
+    let from = pair::Mark {
+        place: operands.walk(stores, work, out).mark.place,
+        register: first,
+    };
+    let end = operands.put_match(from, work, out);
+    words::put(out, end, word::MATCH)
 }

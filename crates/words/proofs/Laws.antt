@@ -6,9 +6,9 @@ use Prim.Native.Nat.{ℕ, suc, ◌+◌, ◌<◌, ◌≤◌}
 use native.Mathlib.Nat.{add-zero, add-suc, suc-add}
 use native.Mathlib.Numerals.{add-one}
 use native.Mathlib.Omega.{arith}
-use lib.ListN.{length, set, get_or, take, drop, replicate, length-append, length-set, drop_of_length-le, get_or-append}
-use lib.Seq.{sets, length-sets, sets-eq, length-take-le, take_at, drop_at, take-append_seam, get_or-set_other, get_or-append-add, drop-cons}
-use borrow.Author.Fill.{fill_none, fill_more}
+use lib.ListN.{length, set, get_or, take, drop, length-append, get_or-append}
+use lib.Seq.{sets, length-sets, sets-eq, length-take-le, take_at, drop_at, drop-drop, take-append_seam, get_or-set_other, get_or-append-add, drop-cons}
+use borrow.Rule.Slice.PartMut.{put_mid}
 use Rattle.words.specs.Written.{written, Wrote}
 
 pub length-written : (o : List ℕ) (at : ℕ) (ws : List ℕ) → length (written o at ws) ≡ length o
@@ -98,9 +98,13 @@ pub three_done : {at a b p : ℕ} {o o₁ o₂ o₃ ws xs ys zs : List ℕ} → 
 three_done e u v w = same_words (sym e) (three_parts u v w)
 
 -- The list, part by part.
-pub spliced : (o : List ℕ) (at : ℕ) (ws : List ℕ) → at + length ws ≤ length o → written o at ws ≡ take at o ++ ws ++ drop (at + length ws) o
+pub spliced : {A : Type 0} (o : List A) (at : ℕ) (ws : List A) → at + length ws ≤ length o → written o at ws ≡ take at o ++ ws ++ drop (at + length ws) o
 unfolding written
 spliced o at ws h = sets-eq ws o at h
+
+-- What a slice holds once a part of it is overwritten is what it holds once the words are put there.
+pub overwritten : {A : Type 0} (o ws : List A) (at n : ℕ) → n ≡ length ws → at + length ws ≤ length o → put_mid at n o ws ≡ written o at ws
+overwritten o ws at n e h = rw (e, drop-drop) (sym (spliced o at ws h ∙ append_assoc (take at o) ws (drop (at + length ws) o)))
 
 -- What was written is there to be read.
 pub read_back : (o : List ℕ) (at : ℕ) (ws : List ℕ) (i : ℕ) → at + length ws ≤ length o → i < length ws → get_or (written o at ws) (at + i) 0 ≡ get_or ws i 0
@@ -132,43 +136,3 @@ front_written {o} {o'} {n} {ws} w h =
 -- The element that the code reads next, in front of what it reads later.
 pub drop_here : (s : List ℕ) (i : ℕ) → i < length s → drop i s ≡ get_or s i 0 ∷ drop (i + 1) s
 drop_here s i h = rw (add-one i) (drop-cons s i 0 h)
-
--- The first i words of a slice are copied; what remains is the rest of it.
-pub record Copying (copy o : List ℕ) (at : ℕ) (o' : List ℕ) (p i : ℕ) : Type 0 where
-  pub inside : i ≤ length copy
-  pub place : p ≡ at + i
-  pub long : length o' ≡ length o
-  pub going : Going o at copy o' p (drop i copy)
-
-pub copying_begins : (copy o : List ℕ) (at : ℕ) → Copying copy o at o at 0
-copying_begins copy o at = record { inside = omega arith; place = omega arith; long = refl; going = begin o at copy }
-
-pub copying_on : {copy o : List ℕ} {at : ℕ} {o' o'' : List ℕ} {p q i : ℕ} → Copying copy o at o' p i → i < length copy
-    → Wrote o' o'' p q (get_or copy i 0 ∷ []) → Copying copy o at o'' q (i + 1)
-copying_on {copy} {i = i} c h w =
-    let next = go (get_or copy i 0 ∷ []) (drop (i + 1) copy) (rw (drop_here copy i h) at c.going) w in
-    record { inside = omega arith; place = omega (arith, c.place, w.ends); long = next.long; going = next }
-
-pub copying_ends : {copy o : List ℕ} {at : ℕ} {o' : List ℕ} {p i : ℕ} → Copying copy o at o' p i → length copy ≤ i → Wrote o o' at p copy
-copying_ends {copy} {i = i} c h = done (rw (drop_of_length-le copy {i = i} h) at c.going)
-
--- The first i elements of o are zero, the others as they were.
-pub record Clearing (o o' : List ℕ) (i : ℕ) : Type 0 where
-  pub inside : i ≤ length o
-  pub holds : o' ≡ replicate i 0 ++ drop i o
-  pub long : length o' ≡ length o
-
-pub clearing_begins : (o : List ℕ) → Clearing o o 0
-clearing_begins o = record { inside = omega arith; holds = fill_none o 0; long = refl }
-
-pub clearing_on : {o o' : List ℕ} {i : ℕ} → Clearing o o' i → i < length o' → Clearing o (set o' i 0) (i + 1)
-clearing_on {o} {o'} {i} g h = record {
-  inside = omega (arith, g.long);
-  holds = rw g.holds (fill_more i 0 o (omega (arith, g.long)));
-  long = length-set o' i 0 ∙ g.long;
-}
-
-pub clearing_ends : {o o' : List ℕ} {i : ℕ} → Clearing o o' i → length o' ≤ i → o' ≡ replicate (length o) 0
-clearing_ends {o} {o'} {i} g h =
-    let e : i ≡ length o = omega (arith, g.long, g.inside) in
-    g.holds ∙ rw (e, drop_of_length-le o {i = length o} (omega arith), append-nil) refl

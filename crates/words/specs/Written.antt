@@ -4,10 +4,10 @@ use Rattle.std.specs.Prelude.{◌≡◌, List, ℕ, ◌+◌, length}
 use Rattle.std.proofs.lemmas.List.Edits.{sets}
 
 -- The list with the words stored one by one from the place on; the rest is as it was.
-unfoldable pub written : List ℕ → ℕ → List ℕ → List ℕ
+unfoldable pub written : {A : Type 0} → List A → ℕ → List A → List A
 written list place words = sets list place words
 
 -- After is before with the words from the place on, and next is the place behind them.
-pub record Wrote (before after : List ℕ) (place next : ℕ) (words : List ℕ) : Type 0 where
+pub record Wrote {A : Type 0} (before after : List A) (place next : ℕ) (words : List A) : Type 0 where
   pub holds : after ≡ written before place words
   pub ends : next ≡ place + length words

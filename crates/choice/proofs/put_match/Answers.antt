@@ -1,10 +1,7 @@
 -- `put_match` puts the texts one by one; what is left of them is said in `Joining`.
-use Rattle.alternative.proofs.Keeping.{outline_is_there, keepable_again}
-use Rattle.choice.proofs.Passes.{among, now_placed, now_ended, joining_begins, text_fits, closing_fits, joining_on, match_fits, joining_ends}
+use Rattle.alternative.proofs.Keeping.{keepable_again}
+use Rattle.choice.proofs.Passes.{among, now_placed, now_ended, joining_begins, text_fits, closing_fits, joining_on, joining_ends}
 use Rattle.choice.proofs.put_match.Goals as goal
-
-pub count_of-count-requires : goal.count_of-count-requires
-count_of-count-requires c = search outline_is_there
 
 pub loop-i-init : goal.loop-i-init
 loop-i-init c = search joining_begins
@@ -25,9 +22,6 @@ pub loop-i-preserved : goal.loop-i-preserved
 loop-i-preserved c =
     joining_on c.requires.0 c.count_of-count.ensures c.loop-i.invariant
     c.loop-i-test.true c.keep-kept.ensures c.root_text-p.ensures c.close-p.ensures c.next_register-next.ensures
-
-pub put-requires : goal.put-requires
-put-requires c = search match_fits
 
 pub returns : goal.returns
 returns c = search joining_ends

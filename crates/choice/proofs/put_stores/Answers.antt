@@ -1,13 +1,7 @@
 -- `put_stores` puts the assignments alternative by alternative; what is left of them is said in `Storing`.
-use Rattle.alternative.proofs.Keeping.{outline_is_there, keepable_again}
-use Rattle.choice.proofs.Passes.{among, now_placed, storing_begins, stores_fit, storing_on, storing_ends}
+use Rattle.alternative.proofs.Keeping.{keepable_again}
+use Rattle.choice.proofs.Passes.{among, now_placed, stores_fit, storing_on, storing_ends}
 use Rattle.choice.proofs.put_stores.Goals as goal
-
-pub count_of-count-requires : goal.count_of-count-requires
-count_of-count-requires c = search outline_is_there
-
-pub loop-i-init : goal.loop-i-init
-loop-i-init c = search storing_begins
 
 pub keep-kept-requires : goal.keep-kept-requires
 keep-kept-requires c = (search keepable_again, search among)
@@ -20,7 +14,7 @@ next_register-r-requires c = search now_placed
 
 pub loop-i-preserved : goal.loop-i-preserved
 loop-i-preserved c =
-    storing_on c.requires.0 c.count_of-count.ensures c.loop-i.invariant
+    storing_on c.requires.0 c.count_of-i-end.ensures c.loop-i.invariant
     c.loop-i-test.true c.keep-kept.ensures c.stores-p.ensures c.next_register-r.ensures
 
 pub returns : goal.returns

@@ -6,8 +6,8 @@ use Rattle.choice.proofs.root_text.Goals as goal
 pub text-requires : goal.text-requires
 text-requires c = (search rules, search other_room)
 
-pub returns-in_default : goal.returns-in_default
-returns-in_default c = search other_written
+pub returns-in-None : goal.returns-in-None
+returns-in-None c = search other_written
 
 pub overflow_add-a : goal.overflow_add-a
 overflow_add-a c = search bare_fits
@@ -15,5 +15,5 @@ overflow_add-a c = search bare_fits
 pub put-requires : goal.put-requires
 put-requires c = search bare_room
 
-pub returns : goal.returns
-returns c = search bare_written
+pub returns-in-Some : goal.returns-in-Some
+returns-in-Some c = search bare_written

@@ -1,10 +1,7 @@
 -- `word_count` adds the words alternative by alternative; what is left of them is said in `Sizing`.
-use Rattle.alternative.proofs.Keeping.{outline_is_there, keepable_again}
+use Rattle.alternative.proofs.Keeping.{keepable_again}
 use Rattle.choice.proofs.Passes.{among, now_countable, sizing_begins, sizing_on, sizing_ends}
 use Rattle.choice.proofs.word_count.Goals as goal
-
-pub count_of-count-requires : goal.count_of-count-requires
-count_of-count-requires c = search outline_is_there
 
 pub loop-i-init : goal.loop-i-init
 loop-i-init c = search sizing_begins

@@ -1,10 +1,6 @@
 -- The loop has made i copies more than the base.
-use Prim.Native.Nat.{◌-◌}
 use Rattle.count.proofs.Leaves.{Copying}
 use Rattle.count.proofs.copied.Given as goal
 
 abbrev pub invariant-loop-i : goal.invariant-loop-i
-invariant-loop-i l = Copying l.base l.k l.copies l.i
-
-abbrev pub decreases-loop-i : goal.decreases-loop-i
-decreases-loop-i l = l.k - l.i
+invariant-loop-i l = Copying l.base l.k l.copies l._i

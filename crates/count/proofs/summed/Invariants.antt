@@ -1,10 +1,6 @@
 -- The loop has summed up i lists of copies.
-use Prim.Native.Nat.{◌-◌}
 use Rattle.count.proofs.Leaves.{Summing}
 use Rattle.count.proofs.summed.Given as goal
 
 abbrev pub invariant-loop-i : goal.invariant-loop-i
-invariant-loop-i l = Summing l.base l.initial.copies l.count l.total l.copies l.i
-
-abbrev pub decreases-loop-i : goal.decreases-loop-i
-decreases-loop-i l = l.count - l.i
+invariant-loop-i l = Summing l.base l.initial.copies l.count l.total l.copies l._i

@@ -1,27 +1,26 @@
 -- A refusal of either operand is handed up; then the pairs.
-use Rattle.outline.proofs.Laws.{where_refused}
-use Rattle.count.proofs.Walking.{answer_is_small}
-use Rattle.count.proofs.AtRoot.{within_inside, within_few, room_enough, one_countable, two_countable, one_refused, two_refused, within_done, operands_known}
-use borrow.Author.Rules.{rules}
+use Rattle.std.proofs.lemmas.Result.{err_from_is_err_and}
+use Rattle.count.proofs.Walking.{where_counted, answer_is_small}
+use Rattle.count.proofs.AtRoot.{one_refused, two_refused, within_done, operands_known}
 use Rattle.count.proofs.walked_within.Goals as goal
 
-pub read-v-requires : goal.read-v-requires
-read-v-requires c = (search within_inside, search within_few)
+pub returns-in_err-x-clause-value : goal.returns-in_err-x-clause-value
+returns-in_err-x-clause-value c =
+    let p = err_from_is_err_and c.from_residual.result c.from_residual.ensures.1 in
+    rw (p.1, p.2) (one_refused c.requires.0 c.read-v.ensures c.walked.ensures.value c.in_err-x.was)
 
-pub walked-one-requires : goal.walked-one-requires
-walked-one-requires c = (search one_countable, search rules)
-
-pub returns-in_default : goal.returns-in_default
-returns-in_default c = record { value = search one_refused; known = search where_refused }
-
-pub walked-two-requires : goal.walked-two-requires
-walked-two-requires c = (search two_countable, search rules)
-
-pub returns-in_default-two : goal.returns-in_default-two
-returns-in_default-two c = record { value = search two_refused; known = search where_refused }
+pub returns-in_err-y-clause-value : goal.returns-in_err-y-clause-value
+returns-in_err-y-clause-value c =
+    let p = err_from_is_err_and c.from_residual-in_err-y.result c.from_residual-in_err-y.ensures.1 in
+    rw (p.1, p.2) (two_refused c.requires.0 c.read-v.ensures c.walked.ensures.value c.in_ok-x.was c.walked-2.ensures.value c.in_err-y.was)
 
 pub paired-requires : goal.paired-requires
-paired-requires c = (search (answer_is_small, room_enough), search (answer_is_small, room_enough))
+paired-requires c =
+    (answer_is_small c.args.room 1 _ c.walked.ensures.value c.in_ok-x.was c.requires.0.rooms, answer_is_small c.args.room 1 _ c.walked-2.ensures.value c.in_ok-y.was c.requires.0.rooms)
 
-pub returns : goal.returns
-returns c = record { value = search within_done; known = search operands_known }
+pub returns-clause-value : goal.returns-clause-value
+returns-clause-value c =
+    within_done c.requires.0 c.read-v.ensures c.walked.ensures.value c.in_ok-x.was c.walked-2.ensures.value c.in_ok-y.was c.paired.ensures
+
+pub returns-clause-known : goal.returns-clause-known
+returns-clause-known c = where_counted c.paired.result (λ _ _. operands_known c.requires.0 c.read-v.ensures c.in_ok-x.ensures.noted c.in_ok-y.ensures.noted)

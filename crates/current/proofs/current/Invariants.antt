@@ -2,8 +2,8 @@
 use Rattle.current.proofs.Walk.{Back}
 use Rattle.current.proofs.current.Given as goal
 
-abbrev pub invariant-loop-previous : goal.invariant-loop-previous
-invariant-loop-previous l = Back l.work l.kept l.initial.out l.at l.j l.r l.out l.p l.k l.register
+abbrev pub invariant-loop-y : goal.invariant-loop-y
+invariant-loop-y l = Back l.y.work.now l.y.kept l.initial.out l.at l.j l.r l.out l.p l.k l.register
 
-abbrev pub decreases-loop-previous : goal.decreases-loop-previous
-decreases-loop-previous l = l.k
+abbrev pub decreases-loop-y : goal.decreases-loop-y
+decreases-loop-y l = l.k

@@ -13,9 +13,6 @@ decreases-bare_alternative l = l.n * 3
 abbrev pub decreases-alternative : goal.decreases-alternative
 decreases-alternative l = l.n * 3 + 1
 
-abbrev pub invariant-repeated-loop-left : goal.invariant-repeated-loop-left
-invariant-repeated-loop-left l =
-    Repeating l.t l.n l.k l.i l.initial.hop l.initial.work l.at l.work l.hop l.place l.left
-
-abbrev pub decreases-repeated-loop-left : goal.decreases-repeated-loop-left
-decreases-repeated-loop-left l = l.left
+abbrev pub invariant-repeated-loop-later : goal.invariant-repeated-loop-later
+invariant-repeated-loop-later l =
+    Repeating l.t l.n l.k l.i l.initial.hop l.initial.work l.at l.work l.hop l.place l.later

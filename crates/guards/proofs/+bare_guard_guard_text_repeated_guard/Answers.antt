@@ -1,6 +1,5 @@
 -- `guard_text`, `bare_guard` and `repeated_guard` write the words of the numbered alternative's guard, by the node number; those of
 -- copies are joined one after the other.
-use borrow.Author.Rules.{rules}
 use Rattle.expand.proofs.Numbers.{node_inside, bare_below, bare_numbered, delay_counts, left_below, right_below, left_numbered, right_numbered, guarded_below, guarded_numbered, copied, copies_counts, block_below, block_numbered, copy_below, copy_inside, copy_some, copy_few, copy_numbered}
 use Rattle.guards.proofs.Laws.{unguarded_text, bare_guard_room, bare_guarded, left_room, right_room, delay_join_room, delay_guarded, condition_small, under_room, condition_room, throughout_join_room, throughout_guarded, block_room, block_guarded, single_unguarded, joining_begins, copy_room, copy_join_room, joining_on, joining_ends}
 use Rattle.guards.proofs.+bare_guard_guard_text_repeated_guard.Goals as goal
@@ -17,35 +16,32 @@ bare_guard-guard_text-end-requires t c = (search right_below, (search right_numb
 pub bare_guard-join_guards-requires : goal.bare_guard-join_guards-requires
 bare_guard-join_guards-requires t c = search delay_join_room
 
-pub bare_guard-returns-then-v-eq-DELAY : goal.bare_guard-returns-then-v-eq-DELAY
-bare_guard-returns-then-v-eq-DELAY t c =
-    let p = c.requires in
-    delay_guarded _ _ p.0 p.1 c.read-v.ensures c.if-v-eq-DELAY.true c.delay_parts-s.ensures c.guard_text-middle.ensures c.guard_text-end.ensures c.join_guards.ensures
+pub bare_guard-returns-in-2 : goal.bare_guard-returns-in-2
+bare_guard-returns-in-2 t c = search delay_guarded
 
-pub bare_guard-guard_text-middle-requires-then-v-eq-THROUGHOUT : goal.bare_guard-guard_text-middle-requires-then-v-eq-THROUGHOUT
-bare_guard-guard_text-middle-requires-then-v-eq-THROUGHOUT t c = (search guarded_below, (search guarded_numbered, search under_room))
+pub bare_guard-guard_text-middle-requires-in-6 : goal.bare_guard-guard_text-middle-requires-in-6
+bare_guard-guard_text-middle-requires-in-6 t c = (search guarded_below, (search guarded_numbered, search under_room))
 
 pub bare_guard-put_condition-end-requires : goal.bare_guard-put_condition-end-requires
 bare_guard-put_condition-end-requires t c = (search condition_room, search condition_small)
 
-pub bare_guard-join_guards-requires-then-v-eq-THROUGHOUT : goal.bare_guard-join_guards-requires-then-v-eq-THROUGHOUT
-bare_guard-join_guards-requires-then-v-eq-THROUGHOUT t c = search throughout_join_room
+pub bare_guard-join_guards-requires-in-6 : goal.bare_guard-join_guards-requires-in-6
+bare_guard-join_guards-requires-in-6 t c = search throughout_join_room
 
-pub bare_guard-returns-then-v-eq-THROUGHOUT : goal.bare_guard-returns-then-v-eq-THROUGHOUT
-bare_guard-returns-then-v-eq-THROUGHOUT t c = search throughout_guarded
+pub bare_guard-returns-in-6 : goal.bare_guard-returns-in-6
+bare_guard-returns-in-6 t c = search throughout_guarded
 
 pub bare_guard-copies_block-s-requires : goal.bare_guard-copies_block-s-requires
-bare_guard-copies_block-s-requires t c =
-    copies_counts (search rules) c.read-v.ensures (copied _ _ c.made_of_copies.ensures c.if-made_of_copies.true)
+bare_guard-copies_block-s-requires t c = search (copies_counts, copied)
 
 pub bare_guard-repeated_guard-requires : goal.bare_guard-repeated_guard-requires
 bare_guard-repeated_guard-requires t c = (search (block_below, copied), (search (block_numbered, copied), search (block_room, copied)))
 
-pub bare_guard-returns-then-made_of_copies : goal.bare_guard-returns-then-made_of_copies
-bare_guard-returns-then-made_of_copies t c = search (block_guarded, copied)
+pub bare_guard-returns-in_default : goal.bare_guard-returns-in_default
+bare_guard-returns-in_default t c = search (block_guarded, copied)
 
-pub bare_guard-returns : goal.bare_guard-returns
-bare_guard-returns t c = search single_unguarded
+pub bare_guard-returns-in_default-2 : goal.bare_guard-returns-in_default-2
+bare_guard-returns-in_default-2 t c = search single_unguarded
 
 pub guard_text-flag_of-requires : goal.guard_text-flag_of-requires
 guard_text-flag_of-requires t c = search node_inside
@@ -62,8 +58,8 @@ guard_text-bare_guard-requires t c = (search bare_below, (search bare_numbered, 
 pub guard_text-returns : goal.guard_text-returns
 guard_text-returns t c = search bare_guarded
 
-pub repeated_guard-loop-left-init : goal.repeated_guard-loop-left-init
-repeated_guard-loop-left-init t c = search joining_begins
+pub repeated_guard-loop-later-init : goal.repeated_guard-loop-later-init
+repeated_guard-loop-later-init t c = search joining_begins
 
 pub repeated_guard-copy_number-number-requires : goal.repeated_guard-copy_number-number-requires
 repeated_guard-copy_number-number-requires t c = (search copy_inside, search copy_some, search copy_few)
@@ -74,8 +70,8 @@ repeated_guard-guard_text-end-requires t c = (search copy_below, (search copy_nu
 pub repeated_guard-join_guards-middle-requires : goal.repeated_guard-join_guards-middle-requires
 repeated_guard-join_guards-middle-requires t c = search copy_join_room
 
-pub repeated_guard-loop-left-preserved : goal.repeated_guard-loop-left-preserved
-repeated_guard-loop-left-preserved t c = search joining_on
+pub repeated_guard-loop-later-preserved : goal.repeated_guard-loop-later-preserved
+repeated_guard-loop-later-preserved t c = search joining_on
 
-pub repeated_guard-returns : goal.repeated_guard-returns
-repeated_guard-returns t c = search joining_ends
+pub repeated_guard-returns-2 : goal.repeated_guard-returns-2
+repeated_guard-returns-2 t c = search joining_ends

@@ -13,8 +13,5 @@ decreases-guard_text l = l.n * 3 + 1
 abbrev pub decreases-bare_guard : goal.decreases-bare_guard
 decreases-bare_guard l = l.n * 3
 
-abbrev pub invariant-repeated_guard-loop-left : goal.invariant-repeated_guard-loop-left
-invariant-repeated_guard-loop-left l = Joining l.t l.n l.k l.i l.initial.work l.at l.work l.middle l.left
-
-abbrev pub decreases-repeated_guard-loop-left : goal.decreases-repeated_guard-loop-left
-decreases-repeated_guard-loop-left l = l.left
+abbrev pub invariant-repeated_guard-loop-later : goal.invariant-repeated_guard-loop-later
+invariant-repeated_guard-loop-later l = Joining l.t l.n l.k l.i l.initial.work l.at l.work l.middle l.later

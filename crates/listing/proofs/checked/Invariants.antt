@@ -1,11 +1,6 @@
 -- The loop finds the first word that does not fit: it keeps `Passing` with the count of the whole slice.
-use Prim.Native.Nat.{◌-◌}
-use lib.ListN.{length}
 use Rattle.listing.proofs.OnePass.{Passing}
 use Rattle.listing.proofs.checked.Given as goal
 
 abbrev pub invariant-loop-at : goal.invariant-loop-at
 invariant-loop-at l = Passing l.count l.listing l.s l.at
-
-abbrev pub decreases-loop-at : goal.decreases-loop-at
-decreases-loop-at l = length l.listing - l.at

@@ -1,11 +1,8 @@
--- The loop counts the stores of the whole slice.
-use Prim.Native.Nat.{◌-◌}
-use lib.ListN.{length}
-use Rattle.listing.proofs.Laws.{Counting}
+-- The stores before the place are counted.
+use Rattle.std.proofs.Common.{◌≡◌, take}
+use Rattle.std.specs.List.{count_by}
+use Rattle.meaning.specs.Listing.{is_store}
 use Rattle.listing.proofs.registers.Given as goal
 
-abbrev pub invariant-loop-at : goal.invariant-loop-at
-invariant-loop-at l = Counting l.listing l.stores l.at
-
-abbrev pub decreases-loop-at : goal.decreases-loop-at
-decreases-loop-at l = length l.listing - l.at
+abbrev pub invariant-loop-w : goal.invariant-loop-w
+invariant-loop-w l = l.stores ≡ count_by is_store (take l.w-index l.listing)

@@ -3,4 +3,4 @@ use Rattle.listing_program.proofs.Laws.{ends_within}
 use Rattle.listing_program.proofs.print.Goals as goal
 
 pub returns : goal.returns
-returns g c = ends_within _ c.status_of-status.ensures c.put_out.ensures
+returns g c = ends_within _ c.status_of.ensures c.put_out.ensures

@@ -1,12 +1,12 @@
--- The loop reads four bytes and puts a word.
+-- The loop puts the word of each group of four bytes.
 use Rattle.little_endian.proofs.Laws.{reading_begins, reading_on, reading_ends}
 use Rattle.little_endian.proofs.read.Goals as goal
 
-pub loop-at-init : goal.loop-at-init
-loop-at-init c = search reading_begins
+pub loop-word-init : goal.loop-word-init
+loop-word-init c = search reading_begins
 
-pub loop-at-preserved : goal.loop-at-preserved
-loop-at-preserved c = search (reading_on, c.put-count.ensures, c.word_at.ensures)
+pub loop-word-preserved : goal.loop-word-preserved
+loop-word-preserved c = search (reading_on, c.put-count.ensures, c.from_le_bytes.ensures)
 
 pub returns : goal.returns
 returns c = search reading_ends

@@ -1,11 +1,6 @@
--- The loop reads four bytes and puts a word.
-use Prim.Native.Nat.{◌-◌}
-use lib.ListN.{length}
+-- The loop puts the word of each group of four bytes.
 use Rattle.little_endian.proofs.Laws.{Reading}
 use Rattle.little_endian.proofs.read.Given as goal
 
-abbrev pub invariant-loop-at : goal.invariant-loop-at
-invariant-loop-at l = Reading l.bytes l.initial.out l.out l.count l.at
-
-abbrev pub decreases-loop-at : goal.decreases-loop-at
-decreases-loop-at l = length l.bytes - l.at
+abbrev pub invariant-loop-word : goal.invariant-loop-word
+invariant-loop-word l = Reading l.bytes l.words l.initial.out l.out l.count l.word-index

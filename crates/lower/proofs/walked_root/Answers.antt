@@ -1,16 +1,23 @@
 -- `walked_root` walks the tree, which outlines it, and hands up what refuses it.
-use Rattle.lower.proofs.Laws.{table_is_formed, answers_stopped, table_is_outlined, answers_finished}
 use borrow.Author.Rules.{rules}
+use Rattle.std.proofs.lemmas.Result.{err_from_is_err_and}
+use Rattle.lower.proofs.Laws.{table_is_formed, answers_stopped, table_is_rooted, answers_finished}
 use Rattle.lower.proofs.walked_root.Goals as goal
 
-pub walked_root-walked-requires : goal.walked_root-walked-requires
-walked_root-walked-requires c = (search table_is_formed, search rules)
+pub walked_root-requires : goal.walked_root-requires
+walked_root-requires c = (search table_is_formed, search rules)
 
-pub returns-in_default : goal.returns-in_default
-returns-in_default c = search answers_stopped
+pub returns-in_err-walked_root : goal.returns-in_err-walked_root
+returns-in_err-walked_root c =
+    let p = err_from_is_err_and c.from_residual.result c.from_residual.ensures.1 in
+    rw (p.1, p.2) (answers_stopped _ c.requires.0 c.walked_root.ensures.value c.args.first c.args.out.now c.in_err-walked_root.was)
 
-pub lowered_root-requires : goal.lowered_root-requires
-lowered_root-requires c = search table_is_outlined
+pub root_of-requires : goal.root_of-requires
+root_of-requires c = search table_is_formed
+
+pub lowered-requires : goal.lowered-requires
+lowered-requires c =
+    table_is_rooted _ c.requires.0 c.walked_root.ensures.value c.in_ok-walked_root.was c.in_ok-walked_root.ensures.known c.root_of.ensures
 
 pub returns : goal.returns
-returns c = search answers_finished
+returns c = let h = c.in_ok-walked_root.was in search answers_finished

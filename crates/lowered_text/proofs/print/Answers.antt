@@ -1,11 +1,10 @@
--- The answer's words fit the output, so that their text has room on the page and stands there.
-use Rattle.text.proofs.Room.{printed_ends_inside}
-use Rattle.lowered_text.proofs.Laws.{page_has_room, page_printed}
-use borrow.Author.Rules.{rules}
+-- The answer's words fit the output, and the text is the tree's.
+use Rattle.lowered_text.proofs.Laws.{listing_fits, tree_shown}
+use Rattle.std.proofs.Common.{rules}
 use Rattle.lowered_text.proofs.print.Goals as goal
 
-pub returns-in_default : goal.returns-in_default
-returns-in_default c = absurd (search (page_has_room, rules))
+pub show-requires : goal.show-requires
+show-requires c = listing_fits c.lower-answer.ensures (search rules) (search rules)
 
-pub returns : goal.returns
-returns c = record { shows = search (page_printed, rules); inside = search printed_ends_inside }
+pub returns-clause-shows : goal.returns-clause-shows
+returns-clause-shows c = search (tree_shown, rules)

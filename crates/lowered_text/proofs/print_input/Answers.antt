@@ -1,13 +1,8 @@
--- Bytes that are no tree, and the words of those that are.
-use Rattle.lowered_text.proofs.Laws.{too_long, uneven, words_read, words_fit, words_counted, tree_printed}
-use borrow.Author.Rules.{rules}
+-- The words of the bytes stand in front of the tree.
+use Rattle.lowered_text.specs.Page.{of_input, input_answer, input_text}
+use Rattle.lowered_text.proofs.Laws.{words_read, words_fit, words_counted, no_tree}
+use Rattle.std.proofs.Common.{rules, arith}
 use Rattle.lowered_text.proofs.print_input.Goals as goal
-
-pub returns-then-input-gt40960 : goal.returns-then-input-gt40960
-returns-then-input-gt40960 c = record { shows = search too_long; inside = search rules }
-
-pub returns-then-input-ne0 : goal.returns-then-input-ne0
-returns-then-input-ne0 c = record { shows = search uneven; inside = search rules }
 
 pub slice_bounds-tree-end : goal.slice_bounds-tree-end
 slice_bounds-tree-end c = search (words_fit, rules)
@@ -15,5 +10,8 @@ slice_bounds-tree-end c = search (words_fit, rules)
 pub slice_bounds-print-end : goal.slice_bounds-print-end
 slice_bounds-print-end c = search (words_counted, rules)
 
-pub returns : goal.returns
-returns c = record { shows = search (tree_printed, words_read, rules); inside = search rules }
+pub returns-clause-shows : goal.returns-clause-shows
+unfolding of_input input_answer input_text
+returns-clause-shows c =
+    let read = words_read c.args.input.now (search rules) (search rules) c.read-count.ensures in
+    grind (arith, no_tree)

@@ -1,30 +1,24 @@
--- The loop looks for a run from start to start.
-use borrow.Author.Rules.{rules}
-use native.Mathlib.Omega.{arith}
-use Rattle.matches.proofs.AnsweredTicks.{looking_begins, looking_inside, looking_on, a_run_found, none_found}
+-- A run is looked for from start to start.
+use Rattle.std.proofs.Common.{rules, tests, arith, refl, ◌≡◌, ◌+◌, ◌*◌, get_or}
+use Rattle.std.proofs.lemmas.Iterator.{YieldsList-from_range, cases_from_any, serves_from_Range}
+use Rattle.runs.proofs.Laws.{row_inside}
+use Rattle.matches.proofs.AnsweredTicks.{a_run_says}
 use Rattle.matches.proofs.ends_at.Goals as goal
 
-pub loop-i-init : goal.loop-i-init
-loop-i-init c = search looking_begins
-
-pub overflow_mul-i : goal.overflow_mul-i
-overflow_mul-i c = omega (arith, looking_inside c.loop-i.invariant c.requires.0 (search rules) c.requires.1)
-
-pub overflow_add-table : goal.overflow_add-table
-overflow_add-table c = omega (arith, looking_inside c.loop-i.invariant c.requires.0 (search rules) c.requires.1)
-
-pub overflow_add-table-in-loop-i : goal.overflow_add-table-in-loop-i
-overflow_add-table-in-loop-i c = omega (arith, looking_inside c.loop-i.invariant c.requires.0 (search rules) c.requires.1)
-
-pub bounds-tables-table : goal.bounds-tables-table
-bounds-tables-table c =
-    omega (arith, looking_inside c.loop-i.invariant c.requires.0 (search rules) c.requires.1)
-
-pub returns-then-tables-table-eq1 : goal.returns-then-tables-table-eq1
-returns-then-tables-table-eq1 c = search a_run_found
-
-pub loop-i-preserved : goal.loop-i-preserved
-loop-i-preserved c = search looking_on
+pub any-requires-clause-callable : goal.any-requires-clause-callable
+any-requires-clause-callable c =
+    serves_from_Range (λ x q k. search (rules, tests))
+    (λ x low high. let inside = row_inside c.args.table x c.args.side _ c.requires.0 (omega (arith, c.requires.1)) in search (rules, tests))
 
 pub returns : goal.returns
-returns c = search none_found
+returns c =
+    let a = c.args in
+    a_run_says a.tables.now a.table a.side a.tick c.any.result c.requires.1
+    (cases_from_any _ _ _
+    (λ k. get_or a.tables.now (a.table + k * a.side + (a.tick + 1)) 0 ≡ 1)
+    (λ k. get_or a.tables.now (a.table + k * a.side + (a.tick + 1)) 0 ≡ 1 → ⊥)
+    c.any.ensures.ran
+    (YieldsList-from_range 0 (a.tick + 1) (a.tick + 1) refl (omega arith))
+    (λ x q k. search (rules, tests))
+    (λ x q k. search (rules, tests)))
+    c.from.ensures

@@ -1,10 +1,7 @@
 -- The loop fills row after row.
 use borrow.Author.Rules.{rules}
-use Rattle.matches.proofs.FilledRows.{table_filling_begins, table_filling_ready, table_filling_on, table_filling_ends}
+use Rattle.matches.proofs.FilledRows.{table_filling_ready, table_filling_on, table_filling_ends}
 use Rattle.matches.proofs.fill_table.Goals as goal
-
-pub loop-i-init : goal.loop-i-init
-loop-i-init c = search table_filling_begins
 
 pub fill_row-requires : goal.fill_row-requires
 fill_row-requires c = (search table_filling_ready, search rules)

@@ -1,10 +1,6 @@
 -- The loop fills row after row.
-use Prim.Native.Nat.{◌-◌}
 use Rattle.matches.proofs.FilledRows.{TableFilling}
 use Rattle.matches.proofs.fill_table.Given as goal
 
 abbrev pub invariant-loop-i : goal.invariant-loop-i
 invariant-loop-i l = TableFilling l.tree l.rows l.width l.side l.initial.tables l.tables l.n l.i
-
-abbrev pub decreases-loop-i : goal.decreases-loop-i
-decreases-loop-i l = l.side - l.i

@@ -1,12 +1,7 @@
--- A refusal is handed on; so many ticks are answered.
-use Rattle.matches.proofs.AnsweredTicks.{ticks_fillable, ticks_have_room, refused_uncleared, ticks_uncleared}
+-- So many ticks are answered.
+use Rattle.matches.proofs.AnsweredTicks.{ticks_fillable, ticks_have_room}
 use Rattle.matches.proofs.matched.Goals as goal
 
-pub returns-in_default : goal.returns-in_default
-returns-in_default c = search refused_uncleared
-
 pub answer_ticks-requires : goal.answer_ticks-requires
-answer_ticks-requires c = (search ticks_fillable, search ticks_have_room)
-
-pub returns : goal.returns
-returns c = search ticks_uncleared
+answer_ticks-requires c =
+    (ticks_fillable _ _ _ _ _ c.judged.ensures c.in_ok-ticks.was, ticks_have_room _ _ _ _ _ c.judged.ensures c.in_ok-ticks.was)

@@ -1,12 +1,15 @@
--- `ored` writes two words a register; what is left of them is said in `Oring`.
-use Rattle.pair.proofs.Delays.{oring_begins, oring_on, oring_ends}
+-- `ored` writes two words a register, and goes on with those of the registers that are left.
+use Rattle.pair.proofs.Delays.{oring_begins, oring_room, oring_on, oring_ends}
 use Rattle.pair.proofs.ored.Goals as goal
 
-pub loop-k-init : goal.loop-k-init
-loop-k-init c = search oring_begins
+pub loop-register-init : goal.loop-register-init
+loop-register-init c = search oring_begins
 
-pub loop-k-preserved : goal.loop-k-preserved
-loop-k-preserved c = search oring_on
+pub copied-p-requires : goal.copied-p-requires
+copied-p-requires c = search oring_room
+
+pub loop-register-preserved : goal.loop-register-preserved
+loop-register-preserved c = search oring_on
 
 pub returns : goal.returns
 returns c = search oring_ends

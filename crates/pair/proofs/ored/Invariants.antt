@@ -1,10 +1,9 @@
--- `ored` writes two words a register; what is left of them is said in `Oring`.
-use Prim.Native.Nat.{◌-◌}
-use Rattle.pair.proofs.Delays.{Oring}
+-- `ored` writes two words a register, and goes on with those of the registers that are left.
+use Prim.Native.Nat.{◌+◌, ◌-◌}
+use Rattle.words.proofs.Laws.{Going}
+use Rattle.pair.specs.Pairs.{delay_texts}
 use Rattle.pair.proofs.ored.Given as goal
 
-abbrev pub invariant-loop-k : goal.invariant-loop-k
-invariant-loop-k l = Oring l.r l.d l.initial.out l.at l.out l.p l.k
-
-abbrev pub decreases-loop-k : goal.decreases-loop-k
-decreases-loop-k l = l.d - l.k
+abbrev pub invariant-loop-register : goal.invariant-loop-register
+invariant-loop-register l =
+    Going l.initial.out l.at (delay_texts l.r l.d) l.out l.p (delay_texts l.register (l.r + l.d - l.register))

@@ -9,8 +9,8 @@ overflow_cast-d c = search pair_delays_fit
 pub stores-a-requires : goal.stores-a-requires
 stores-a-requires c = (search rules, search own_stores_room)
 
-pub slide_stores-p-requires : goal.slide_stores-p-requires
-slide_stores-p-requires c = (search pair_slid, search slide_stores_room)
+pub slide_stores-requires : goal.slide_stores-requires
+slide_stores-requires c = (search pair_slid, search slide_stores_room)
 
 pub overflow_add-result : goal.overflow_add-result
 overflow_add-result c = search pair_next_fits

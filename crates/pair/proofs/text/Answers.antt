@@ -12,12 +12,12 @@ text-a-requires c = (search rules, search two_text_room)
 pub slid_text-b-requires : goal.slid_text-b-requires
 slid_text-b-requires c = (search pair_slid, search one_text_room)
 
-pub closed-p-requires : goal.closed-p-requires
-closed-p-requires c = search closing_room
+pub closed-requires : goal.closed-requires
+closed-requires c = search closing_room
 
 pub overflow_add-result : goal.overflow_add-result
 overflow_add-result c = search pair_next_fits
 
 pub returns : goal.returns
 returns c =
-    pair_text_done _ _ c.next_register-r.ensures _ c.text-a.ensures c.slid_text-b.ensures c.closed-p.ensures
+    pair_text_done _ _ c.next_register-r.ensures _ c.text-a.ensures c.slid_text-b.ensures c.closed.ensures

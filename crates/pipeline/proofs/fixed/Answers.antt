@@ -13,7 +13,7 @@ pub put-next-requires : goal.put-next-requires
 put-next-requires c = search fixed_store_room
 
 pub delays-requires : goal.delays-requires
-delays-requires c = (search rules, search rules, search rules, search fixed_rest_room)
+delays-requires c = (search rules, search rules, search fixed_rest_room)
 
 pub returns : goal.returns
 returns c = search fixed_done

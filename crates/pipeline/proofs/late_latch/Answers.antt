@@ -1,13 +1,14 @@
 -- `late_latch` puts the delays, then the latch over the last two registers.
-use Rattle.pipeline.proofs.Laws.{no_guard_whole, late_delays_room, late_latch_room, late_latch_done}
+use Rattle.pipeline.proofs.Laws.{late_delays_room, late_latch_room}
+use Rattle.words.proofs.Laws.{two_parts}
 use borrow.Author.Rules.{rules}
 use Rattle.pipeline.proofs.late_latch.Goals as goal
 
 pub fixed-p-requires : goal.fixed-p-requires
-fixed-p-requires c = (search rules, search no_guard_whole, search rules, search rules, search late_delays_room)
+fixed-p-requires c = (search rules, search rules, search rules, search late_delays_room)
 
 pub copied-requires : goal.copied-requires
 copied-requires c = search late_latch_room
 
 pub returns : goal.returns
-returns c = search late_latch_done
+returns c = search two_parts

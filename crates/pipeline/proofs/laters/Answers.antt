@@ -1,19 +1,19 @@
 -- `laters` puts the stores of step after step; what is left of them is said in `Storing`.
-use Rattle.pipeline.proofs.Laws.{first_high, storing_begins, storing_high, storing_ready, storing_later, storing_room, storing_on, storing_ends}
+use Rattle.pipeline.proofs.Laws.{first_high, storing_begins, storing_high, storing_ready, storing_room, storing_on, storing_ends}
 use borrow.Author.Rules.{rules}
 use Rattle.pipeline.proofs.laters.Goals as goal
 
 pub register_after-r-requires : goal.register_after-r-requires
-register_after-r-requires c = (search rules, search rules, search first_high)
+register_after-r-requires c = (search rules, search first_high)
 
 pub loop-k-init : goal.loop-k-init
 loop-k-init c = search storing_begins
 
-pub register_after-q-requires : goal.register_after-q-requires
-register_after-q-requires c = (search rules, search rules, search storing_high)
-
 pub later-p-requires : goal.later-p-requires
-later-p-requires c = (search storing_ready, search storing_later, search storing_room)
+later-p-requires c = (search storing_ready, search rules, search storing_room)
+
+pub register_after-r-requires-in-loop-k : goal.register_after-r-requires-in-loop-k
+register_after-r-requires-in-loop-k c = (search rules, search storing_high)
 
 pub loop-k-preserved : goal.loop-k-preserved
 loop-k-preserved c = search storing_on

@@ -1,33 +1,28 @@
 -- The loop counts b, and sets the ends as it passes them.
-use borrow.Author.Rules.{rules}
-use native.Mathlib.Omega.{arith}
-use Rattle.recorded_runs.proofs.Counting.{counting_begins, counting_adds, counting_waits, counting_on, counting_stops, counting_ends, at_most_one}
-use Rattle.recorded_runs.proofs.Rows.{tick_there}
+use Rattle.std.proofs.Common.{arith, ◌≡◌, ◌||◌, true, false}
+use Rattle.recorded_runs.proofs.Counting.{counting_begins, counting_adds, counting_waits, counting_on, counting_stops, counting_ends}
 use Rattle.recorded_runs.proofs.counted.Goals as goal
+use Rattle.recorded_runs.proofs.counted.Goals.{then-seen-count-2+then-goes_on, then-here, else-here, else-seen-count-2, else-seen-count-2-via-then-seen-count-2+else-goes_on, else-seen-count-2-via-else-seen-count-2}
 
 pub loop-tick-init : goal.loop-tick-init
 loop-tick-init c = search counting_begins
 
-pub holds-here-requires : goal.holds-here-requires
-holds-here-requires c = (search tick_there, search rules)
-
-pub overflow_cast-seen : goal.overflow_cast-seen
-overflow_cast-seen c = tt
-
-pub overflow_add-seen : goal.overflow_add-seen
-overflow_add-seen c = omega (arith, at_most_one c.holds-here.result)
-
 pub returns-then-seen-count : goal.returns-then-seen-count
 returns-then-seen-count c = search counting_stops
 
-pub loop-tick-preserved-then-may_end : goal.loop-tick-preserved-then-may_end
-loop-tick-preserved-then-may_end c = search counting_adds
-
-pub loop-tick-preserved-else-may_end : goal.loop-tick-preserved-else-may_end
-loop-tick-preserved-else-may_end c = search counting_waits
-
 pub loop-tick-preserved : goal.loop-tick-preserved
-loop-tick-preserved c = search counting_on
+loop-tick-preserved c =
+    elim c.if-seen-count-2.branch [
+      | then-seen-count-2+then-goes_on w ↦
+          let ends : (c.holds-here.result || c.args.goes_on) ≡ true = elim w.if-here.branch [ then-here v ↦ grind arith | else-here v ↦ grind arith ] in
+          rw w.row-is (search counting_adds)
+      | else-seen-count-2 w ↦ rw w.row-is (elim w.else-seen-count-2.branch [
+        | else-seen-count-2-via-then-seen-count-2+else-goes_on v ↦
+            let waits : (c.holds-here.result || c.args.goes_on) ≡ false = elim v.if-here.branch [ then-here u ↦ grind arith | else-here u ↦ grind arith ] in
+            search counting_waits
+        | else-seen-count-2-via-else-seen-count-2 v ↦ search counting_on
+      ])
+    ]
 
 pub returns : goal.returns
 returns c = search counting_ends

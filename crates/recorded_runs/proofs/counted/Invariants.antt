@@ -1,11 +1,6 @@
 -- The loop counts b, and sets the ends as it passes them.
-use Prim.Native.Nat.{◌-◌}
-use lib.ListN.{length}
 use Rattle.recorded_runs.proofs.Counting.{Counting}
 use Rattle.recorded_runs.proofs.counted.Given as goal
 
 abbrev pub invariant-loop-tick : goal.invariant-loop-tick
 invariant-loop-tick l = Counting l.goes_on l.rows l.width l.atom l.count l.i l.initial.row l.row l.seen l.tick
-
-abbrev pub decreases-loop-tick : goal.decreases-loop-tick
-decreases-loop-tick l = length l.initial.row - l.tick

@@ -1,20 +1,17 @@
--- The loop goes on as long as the atom holds.
-use borrow.Author.Rules.{rules}
-use Rattle.recorded_runs.proofs.Rows.{tick_there}
-use Rattle.recorded_runs.proofs.Lasting.{lasting_begins, lasting_on, lasting_stops, lasting_ends}
+-- The first tick at which the atom does not hold, or the last end of all, is the last end.
+use Rattle.std.proofs.Common.{rules, tests, ◌≡◌, true, false}
+use Rattle.std.proofs.lemmas.Iterator.{first_from_Range}
+use Rattle.recorded_runs.specs.Recorded.{recorded}
+use Rattle.recorded_runs.proofs.Lasting.{last_found}
 use Rattle.recorded_runs.proofs.last_end.Goals as goal
 
-pub loop-end-init : goal.loop-end-init
-loop-end-init c = search lasting_begins
-
-pub holds-requires : goal.holds-requires
-holds-requires c = (search tick_there, search rules)
-
-pub returns-then-not-holds : goal.returns-then-not-holds
-returns-then-not-holds c = search lasting_stops
-
-pub loop-end-preserved : goal.loop-end-preserved
-loop-end-preserved c = search lasting_on
-
 pub returns : goal.returns
-returns c = search lasting_ends
+returns c =
+    last_found c.args.side _ c.requires.2
+    (first_from_Range _ _ _ _
+    (λ t. recorded c.args.rows.now c.args.width t c.args.atom ≡ false)
+    (λ t. recorded c.args.rows.now c.args.width t c.args.atom ≡ true)
+    c.find.ensures.ran
+    (λ x q k. search (rules, tests))
+    (λ x q k. search (rules, tests)))
+    c.unwrap_or.ensures

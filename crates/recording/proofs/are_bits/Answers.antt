@@ -1,15 +1,11 @@
--- The loop has found no byte above 1 before i.
-use Rattle.recording.proofs.Rows.{bits_begin, a_byte_above_1, a_bit_more, bits_end}
+-- Each byte is looked at, up to the first that is no bit.
+use Rattle.std.proofs.Common.{rules, tests, leb, ◌∙◌}
+use Rattle.std.proofs.lemmas.Iterator.{YieldsList-from_slice}
+use Rattle.std.proofs.lemmas.Iterator.Search.{all_from_yields_List}
+use Rattle.recording.proofs.Rows.{bits_are_all}
 use Rattle.recording.proofs.are_bits.Goals as goal
 
-pub loop-i-init : goal.loop-i-init
-loop-i-init c = search bits_begin
-
-pub returns-then-bytes-i-gt1 : goal.returns-then-bytes-i-gt1
-returns-then-bytes-i-gt1 c = search a_byte_above_1
-
-pub loop-i-preserved : goal.loop-i-preserved
-loop-i-preserved c = search a_bit_more
-
 pub returns : goal.returns
-returns c = search bits_end
+returns c =
+    all_from_yields_List (λ x. leb x 1) _ _ _ c.all.ensures.ran (YieldsList-from_slice c.args.bytes.now (cc)) (λ x b q k. search (rules, tests))
+    ∙ bits_are_all c.args.bytes.now

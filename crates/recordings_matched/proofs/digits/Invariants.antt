@@ -1,11 +1,6 @@
--- `digits` stays inside the text and the bytes: a byte of the text less is left each turn.
-use Prim.Native.Nat.{◌-◌, ◌≤◌}
-use mathlib.Core.Path.{◌≡◌}
-use lib.ListN.{length}
+-- No more values are put than there is room for.
+use Rattle.std.proofs.Common.{◌≤◌, length}
 use Rattle.recordings_matched.proofs.digits.Given as goal
 
-abbrev pub invariant-loop-i : goal.invariant-loop-i
-invariant-loop-i l = (length l.bytes ≡ length l.initial.bytes) × (l.count ≤ length l.bytes)
-
-abbrev pub decreases-loop-i : goal.decreases-loop-i
-decreases-loop-i l = length l.text - l.i
+abbrev pub invariant-loop-byte : goal.invariant-loop-byte
+invariant-loop-byte l = l.count ≤ length l.bytes

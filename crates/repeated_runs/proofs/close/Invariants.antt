@@ -1,11 +1,6 @@
 -- The loop adds what is reached from one point of the row after another.
-use Prim.Native.Nat.{◌-◌}
-use lib.ListN.{length}
 use Rattle.repeated_runs.proofs.Closing.{Closing}
 use Rattle.repeated_runs.proofs.close.Given as goal
 
 abbrev pub invariant-loop-k : goal.invariant-loop-k
 invariant-loop-k l = Closing l.tables l.table l.first l.initial.row l.row l.k
-
-abbrev pub decreases-loop-k : goal.decreases-loop-k
-decreases-loop-k l = length l.initial.row - l.k

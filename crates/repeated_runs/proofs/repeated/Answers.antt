@@ -5,7 +5,7 @@ use borrow.Author.Rules.{rules}
 use Rattle.repeated_runs.proofs.Rows.{part_long, part_short, part_fits}
 use Rattle.repeated_runs.proofs.Repeating.{Made, Lacking, repeating_begins, repeating_on, repeating_settles, repeating_ends, last_lacking, closed_lacking, nothing_lacking}
 use Rattle.repeated_runs.proofs.repeated.Goals as goal
-use Rattle.repeated_runs.proofs.repeated.Goals.{else-loop-copies-test, then-loop-copies-test+then-same, then-side-max, else-side-max}
+use Rattle.repeated_runs.proofs.repeated.Goals.{else-loop-copies-test, then-loop-copies-test+then-eq, then-side-max, else-side-max}
 
 pub loop-copies-init : goal.loop-copies-init
 loop-copies-init c = search repeating_begins
@@ -28,10 +28,10 @@ close-requires c = search (part_fits, rules)
 pub returns : goal.returns
 returns c =
     let a = c.args in
-    let made : Made a.tables.now a.table c.capped-low.result c.last-high.result a.i a.row.now c.loop-copies-test.row c.loop-copies.ends =
+    let made : Made a.tables.now a.table c.min-low.result c.last-high.result a.i a.row.now c.loop-copies-test.row c.loop-copies.ends =
     elim c.loop-copies-test.branch [
       | else-loop-copies-test w ↦ rw w.row-is (search repeating_ends)
-      | then-loop-copies-test+then-same w ↦ rw w.row-is (search repeating_settles)
+      | then-loop-copies-test+then-eq w ↦ rw w.row-is (search repeating_settles)
     ]
     in
     let lacking : Lacking a.tables.now a.table a.min a.max a.i a.row.now c.loop-copies-test.row c.if-side-max.ends =

@@ -6,6 +6,3 @@ use Rattle.sensor.proofs.add_row.Given as goal
 
 abbrev pub invariant-loop-column : goal.invariant-loop-column
 invariant-loop-column l = Filling l.initial.map l.place (row_entries l.loaded l.row 752 0) l.map l.next (row_entries l.loaded l.row (752 - l.column) l.column)
-
-abbrev pub decreases-loop-column : goal.decreases-loop-column
-decreases-loop-column l = 752 - l.column

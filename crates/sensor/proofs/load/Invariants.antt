@@ -6,6 +6,3 @@ use Rattle.sensor.proofs.load.Given as goal
 
 abbrev pub invariant-loop-row : goal.invariant-loop-row
 invariant-loop-row l = Filling l.initial.map 0 (entries_of l.loaded) l.map l.place (entries_from l.loaded (752 - l.row) l.row)
-
-abbrev pub decreases-loop-row : goal.decreases-loop-row
-decreases-loop-row l = 752 - l.row

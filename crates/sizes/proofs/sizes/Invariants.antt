@@ -1,10 +1,8 @@
--- `sizes` counts step after step; what is left of them is said in `Sizing`.
+-- `sizes` counts step after step: before the k-th, the sizes are those of the steps before it.
+use mathlib.Core.Path.{◌≡◌}
 use Prim.Native.Nat.{◌-◌}
-use Rattle.sizes.proofs.Laws.{Sizing}
+use Rattle.sizes.specs.Sizes.{size_up_to_step}
 use Rattle.sizes.proofs.sizes.Given as goal
 
 abbrev pub invariant-loop-k : goal.invariant-loop-k
-invariant-loop-k l = Sizing l.work l.kept l.g l.z l.k
-
-abbrev pub decreases-loop-k : goal.decreases-loop-k
-decreases-loop-k l = l.kept.steps - l.k
+invariant-loop-k l = l.z ≡ size_up_to_step l.y.work.now l.y.kept (l.k - 1)

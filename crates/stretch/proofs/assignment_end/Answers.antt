@@ -1,15 +1,9 @@
--- `assignment_end` meets its contract: while its loop runs, the assignment goes on at the place that is read.
-use Rattle.stretch.proofs.Laws.{passing_begins, passing_on, passing_stops, passing_ends}
+-- The first store from the place on is the last word of the assignment.
+use Rattle.stretch.proofs.Laws.{assignment_stops, assignment_runs_out}
 use Rattle.stretch.proofs.assignment_end.Goals as goal
 
-pub loop-here-init : goal.loop-here-init
-loop-here-init c = search passing_begins
+pub returns-in-Some : goal.returns-in-Some
+returns-in-Some c = search assignment_stops
 
-pub returns-then-is_store : goal.returns-then-is_store
-returns-then-is_store c = search passing_stops
-
-pub loop-here-preserved : goal.loop-here-preserved
-loop-here-preserved c = search passing_on
-
-pub returns : goal.returns
-returns c = search passing_ends
+pub returns-in-None : goal.returns-in-None
+returns-in-None c = search assignment_runs_out

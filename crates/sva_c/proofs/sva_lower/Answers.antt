@@ -2,8 +2,8 @@
 use Rattle.sva_c.proofs.Laws.{listed_for_c, refused_for_c}
 use Rattle.sva_c.proofs.sva_lower.Goals as goal
 
-pub returns-in-Listing : goal.returns-in-Listing
-returns-in-Listing c = search listed_for_c
+pub returns-in-Ok : goal.returns-in-Ok
+returns-in-Ok c = search listed_for_c
 
-pub returns-in-Refused : goal.returns-in-Refused
-returns-in-Refused c = search refused_for_c
+pub returns-in-Err : goal.returns-in-Err
+returns-in-Err c = rw (c.number.ensures, c.place.ensures) (search refused_for_c)

@@ -2,8 +2,8 @@
 use Rattle.sva_c.proofs.Laws.{ticked_for_c, not_ticked_for_c}
 use Rattle.sva_c.proofs.sva_tick.Goals as goal
 
-pub returns-in-Match : goal.returns-in-Match
-returns-in-Match c = search ticked_for_c
+pub returns-in-Ok : goal.returns-in-Ok
+returns-in-Ok c = search ticked_for_c
 
-pub returns-in-Refused : goal.returns-in-Refused
-returns-in-Refused c = search not_ticked_for_c
+pub returns-in-Err : goal.returns-in-Err
+returns-in-Err c = rw (c.number.ensures, c.place.ensures) (search not_ticked_for_c)

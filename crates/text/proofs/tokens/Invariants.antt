@@ -1,11 +1,8 @@
--- The loop writes a space and a token for each word.
-use Prim.Native.Nat.{◌-◌}
-use lib.ListN.{length}
-use Rattle.text.proofs.ListingLines.{Spelling}
+-- The tokens of the words so far stand there.
+use Rattle.std.proofs.Common.{take}
+use Rattle.words.specs.Written.{Wrote}
+use Rattle.text.specs.Text.{tokens_text}
 use Rattle.text.proofs.tokens.Given as goal
 
-abbrev pub invariant-loop-i : goal.invariant-loop-i
-invariant-loop-i l = Spelling l.expression l.initial.out l.at l.out l.next l.i
-
-abbrev pub decreases-loop-i : goal.decreases-loop-i
-decreases-loop-i l = length l.expression - l.i
+abbrev pub invariant-loop-w : goal.invariant-loop-w
+invariant-loop-w l = Wrote l.initial.out l.out l.at l.next (tokens_text (take l.w-index l.expression))

@@ -1,12 +1,8 @@
--- The loop keeps the highest byte, which decides.
-use Rattle.tick.proofs.Refusals.{highest_begins, highest_on, highest_decides}
+-- The highest of the bytes decides.
+use Rattle.std.proofs.Common.{rules, ◌≡◌, fold, max}
+use Rattle.std.proofs.iter.runs.Made.{chains}
+use Rattle.tick.proofs.Refusals.{highest_decides}
 use Rattle.tick.proofs.are_bits.Goals as goal
 
-pub loop-at-init : goal.loop-at-init
-loop-at-init c = search highest_begins
-
-pub loop-at-preserved : goal.loop-at-preserved
-loop-at-preserved c = search highest_on
-
 pub returns : goal.returns
-returns c = search highest_decides
+returns c = let e : c.fold.result ≡ fold max 0 c.args.bytes.now = search (rules, chains) in rw e (highest_decides c.args.bytes.now)

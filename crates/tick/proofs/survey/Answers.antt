@@ -1,31 +1,41 @@
 -- The pass lets through exactly the described listings: the loop keeps `Surveying`.
-use Rattle.tick.proofs.Surveying.{surveying_begins, unfit_here, surveying_atom, surveying_another, ends_early, unended, register_missing, whole_there, faulty_there}
-use borrow.Author.Rules.{rules}
+use Rattle.std.proofs.Common.{◌∙◌}
+use Rattle.tick.proofs.Surveying.{surveying_begins, no_word, unfit_here, surveying_atom, surveying_another, unended, register_missing, whole_there, faulty_there}
 use Rattle.tick.proofs.survey.Goals as goal
-use Rattle.tick.proofs.survey.Goals.{then-w-lt-REGISTER, else-w-lt-REGISTER}
+use Rattle.tick.proofs.survey.Goals.{then-w-lt-REGISTER, else-w-lt-REGISTER, then-not-ended-via-then-not-ended, then-not-ended-via-else-not-ended+then-s}
 
-pub loop-at-init : goal.loop-at-init
-loop-at-init c = search surveying_begins
+pub returns-in_err-last : goal.returns-in_err-last
+returns-in_err-last c = c.from_residual.ensures ∙ faulty_there _ _ (no_word c.in_err-last.ensures.cases)
 
-pub returns-in_default : goal.returns-in_default
-returns-in_default c = search (faulty_there, unfit_here)
+pub loop-w-init : goal.loop-w-init
+loop-w-init c = search surveying_begins
 
-pub loop-at-preserved : goal.loop-at-preserved
-loop-at-preserved c =
-    let inv = c.loop-at.invariant in
+pub returns-in_err-s : goal.returns-in_err-s
+returns-in_err-s c =
+    c.from_residual-in_err-s.ensures ∙ faulty_there _ _ (unfit_here _ _ c.loop-w.invariant c.in_ok-last.ensures.cases.0 c.loop-w-test.true c.note.ensures c.in_err-s.was)
+
+pub loop-w-preserved : goal.loop-w-preserved
+loop-w-preserved c =
+    let i = c.loop-w.invariant in
+    let o = c.in_ok-last.ensures.cases.0 in
+    let l = c.loop-w-test.true in
     elim c.if-w-lt-REGISTER.branch [
-      | then-w-lt-REGISTER w ↦ rw w.bits-is (surveying_atom inv c.loop-at-test.true c.note.ensures (search rules) w.if-w-lt-REGISTER.true w.bits_with-bits.ensures)
-      | else-w-lt-REGISTER w ↦ rw w.bits-is (surveying_another inv c.loop-at-test.true c.note.ensures (search rules) w.if-w-lt-REGISTER.false)
+      | then-w-lt-REGISTER w ↦
+          rw w.bits-is (surveying_atom _ _ i o l c.note.ensures c.in_ok-s.was w.if-w-lt-REGISTER.true w.bits_with-bits.ensures)
+      | else-w-lt-REGISTER w ↦ rw w.bits-is (surveying_another _ _ i o l c.note.ensures c.in_ok-s.was w.if-w-lt-REGISTER.false)
     ]
 
-pub returns-then-listing-at : goal.returns-then-listing-at
-returns-then-listing-at c = search (faulty_there, ends_early)
-
 pub returns-then-not-ended : goal.returns-then-not-ended
-returns-then-not-ended c = search (faulty_there, unended)
-
-pub returns-then-s : goal.returns-then-s
-returns-then-s c = search (faulty_there, register_missing)
+returns-then-not-ended c =
+    let i = c.loop-w.invariant in
+    let o = c.in_ok-last.ensures.cases.0 in
+    faulty_there _ _
+    (elim c.then-not-ended.branch [
+      | then-not-ended-via-then-not-ended w ↦ unended _ _ i o c.loop-w-test.false c.loop-w.auto.w-index-end c.ended.ensures w.if-not-ended.true
+      | then-not-ended-via-else-not-ended+then-s w ↦
+          register_missing _ _ i o c.loop-w-test.false c.loop-w.auto.w-index-end c.ended.ensures w.if-not-ended.false w.if-s.true
+    ])
 
 pub returns : goal.returns
-returns c = search whole_there
+returns c =
+    whole_there _ _ c.loop-w.invariant c.in_ok-last.ensures.cases.0 c.loop-w-test.false c.loop-w.auto.w-index-end c.ended.ensures c.if-not-ended.false c.if-s.false

@@ -7,17 +7,8 @@ use Rattle.trees_replayed.proofs.main.Goals as goal
 pub slice_bounds-read_full-end : goal.slice_bounds-read_full-end
 slice_bounds-read_full-end c = sym (length-replicate {A = ℕ} 1572864 0)
 
-pub read_full-count-requires : goal.read_full-count-requires
-read_full-count-requires c = tt
-
 pub slice_bounds-input-end : goal.slice_bounds-input-end
 slice_bounds-input-end c = c.read_full-count.ensures.0
 
-pub slice_bounds-replay-end : goal.slice_bounds-replay-end
-slice_bounds-replay-end c = c.read_full-count.ensures.1
-
-pub replay-requires : goal.replay-requires
-replay-requires c = tt
-
-pub returns : goal.returns
-returns c = tt
+pub slice_bounds-each_case-end : goal.slice_bounds-each_case-end
+slice_bounds-each_case-end c = c.read_full-count.ensures.1

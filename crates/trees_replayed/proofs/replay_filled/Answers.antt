@@ -9,9 +9,3 @@ slice_bounds-replay_tree-end c = sym (length-replicate {A = ℕ} 1052672 1515870
 
 pub slice_bounds-replay_tree-end-2 : goal.slice_bounds-replay_tree-end-2
 slice_bounds-replay_tree-end-2 c = sym (length-replicate {A = ℕ} 164224 1515870810)
-
-pub replay_tree-requires : goal.replay_tree-requires
-replay_tree-requires c = tt
-
-pub returns : goal.returns
-returns c = tt

@@ -9,23 +9,8 @@ use Rattle.trees_replayed.proofs.show.Goals as goal
 pub slice_bounds-text-end : goal.slice_bounds-text-end
 slice_bounds-text-end c = sym (length-replicate {A = ℕ} 524416 0)
 
-pub text-requires : goal.text-requires
-text-requires c = tt
-
-pub say_counts-requires : goal.say_counts-requires
-say_counts-requires c = tt
-
-pub returns-in_default : goal.returns-in_default
-returns-in_default c = tt
-
 pub slice_bounds-page-end : goal.slice_bounds-page-end
 slice_bounds-page-end c = search printed_ends_inside
 
 pub slice_bounds-write_all-end : goal.slice_bounds-write_all-end
 slice_bounds-write_all-end c = sym (length-take-le _ _ (search printed_ends_inside))
-
-pub write_all-requires : goal.write_all-requires
-write_all-requires c = tt
-
-pub returns : goal.returns
-returns c = tt

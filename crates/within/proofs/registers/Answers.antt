@@ -1,10 +1,11 @@
--- `registers` measures the windows of seq1's alternatives, then adds up those of seq2.
-use borrow.Author.Rules.{rules}
-use Rattle.within.proofs.Rows.{one_keepable, still_paired}
+-- `registers` measures the windows of seq1's alternatives, then adds up all registers.
+use Rattle.within.proofs.RegisterSums.{registers_taken, registers_counted}
 use Rattle.within.proofs.registers.Goals as goal
 
-pub put_windows-requires : goal.put_windows-requires
-put_windows-requires c = (search one_keepable, search rules)
+pub walk-requires : goal.walk-requires
+walk-requires c =
+    let operands = c.measured-operands.ensures in (operands.ready, rw (operands.ones, operands.twos) (registers_taken c.requires _))
 
-pub all_registers-requires : goal.all_registers-requires
-all_registers-requires c = (search still_paired, search rules)
+pub returns : goal.returns
+returns c =
+    let operands = c.measured-operands.ensures in registers_counted _ _ _ (rw (operands.ones, operands.twos) at c.walk.ensures.goes)

@@ -1,22 +1,31 @@
 -- `write` puts the assignments, the match and the match's own word one after the other.
 use borrow.Author.Rules.{rules}
-use Rattle.within.proofs.Rows.{one_keepable, still_numberable}
+use Rattle.within.proofs.Rows.{still_ready}
+use Rattle.within.proofs.StoreWords.{stores_taken, stores_put}
 use Rattle.within.proofs.Whole.{stores_have_room, match_has_room, end_has_room, listing_written}
 use Rattle.within.proofs.write.Goals as goal
 
-pub put_windows-requires : goal.put_windows-requires
-put_windows-requires c = (search (one_keepable), search rules)
+pub walk-requires : goal.walk-requires
+walk-requires c =
+    let operands = c.measured-operands.ensures in
+    (operands.ready, rw (operands.ones, operands.twos) (stores_taken _ _ _ _ c.requires.0.few (stores_have_room c.requires.0 _ c.requires.1)))
 
-pub put_stores-a-requires : goal.put_stores-a-requires
-put_stores-a-requires c = record { numberable = (search still_numberable, search rules); room = search stores_have_room }
-
-pub put_match-b-requires : goal.put_match-b-requires
-put_match-b-requires c =
-    record { numberable = (still_numberable c.requires.0 (search rules), search rules); room = match_has_room c.requires.0 _ c.requires.1 c.put_stores-a.ensures }
+pub put_match-end-requires : goal.put_match-end-requires
+put_match-end-requires c =
+    let operands = c.measured-operands.ensures in
+    let stores = stores_put _ _ _ (rw (operands.ones, operands.twos) at c.walk.ensures.goes) in record {
+      numbered = (still_ready operands.ready (search rules), rw (operands.ones, operands.twos) c.requires.0.few);
+      room = rw (operands.ones, operands.twos) (match_has_room c.requires.0 _ c.requires.1 stores);
+    }
 
 pub put-requires : goal.put-requires
-put-requires c = search end_has_room
+put-requires c =
+    let operands = c.measured-operands.ensures in
+    let stores = stores_put _ _ _ (rw (operands.ones, operands.twos) at c.walk.ensures.goes) in
+    end_has_room c.requires.0 _ c.requires.1 stores (rw (operands.ones, operands.twos) at c.put_match-end.ensures)
 
 pub returns : goal.returns
 returns c =
-    listing_written c.requires.0 c.put_stores-a.ensures c.put_match-b.ensures c.put.ensures
+    let operands = c.measured-operands.ensures in
+    let stores = stores_put _ _ _ (rw (operands.ones, operands.twos) at c.walk.ensures.goes) in
+    listing_written c.requires.0 stores (rw (operands.ones, operands.twos) at c.put_match-end.ensures) c.put.ensures

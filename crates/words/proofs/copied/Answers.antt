@@ -1,12 +1,10 @@
--- `copied` puts one word after the other; what is left of them is said in `Copying`.
-use Rattle.words.proofs.Laws.{copying_begins, copying_on, copying_ends}
+-- `copied` overwrites a part of the slice with the words.
+use Rattle.std.proofs.Common.{arith}
+use Rattle.words.proofs.Laws.{overwritten}
 use Rattle.words.proofs.copied.Goals as goal
 
-pub loop-i-init : goal.loop-i-init
-loop-i-init c = search copying_begins
-
-pub loop-i-preserved : goal.loop-i-preserved
-loop-i-preserved c = search copying_on
-
 pub returns : goal.returns
-returns c = search copying_ends
+returns g c = record {
+  holds = rw c.copy_from_slice.ensures.after (overwritten c.args.out.now c.args.words.now c.args.place _ (omega arith) (omega arith));
+  ends = omega arith;
+}

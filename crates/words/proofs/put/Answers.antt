@@ -1,8 +1,8 @@
 -- `put` stores the word, and nothing else.
+use Rattle.std.proofs.Common.{rules}
 use Rattle.words.specs.Written.{written}
-use borrow.Author.Rules.{rules}
 use Rattle.words.proofs.put.Goals as goal
 
 pub returns : goal.returns
 unfolding written
-returns c = search rules
+returns g c = search rules

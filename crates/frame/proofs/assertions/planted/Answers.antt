@@ -2,14 +2,14 @@
 use Rattle.frame.proofs.AssertionLaws.{planting_begins, room_for_a_node, planting_on, planting_ends}
 use Rattle.frame.proofs.assertions.planted.Goals as goal
 
-pub loop-n-init : goal.loop-n-init
-loop-n-init c = search planting_begins
+pub loop-kind-init : goal.loop-kind-init
+loop-kind-init c = search planting_begins
 
-pub put_node-words-requires : goal.put_node-words-requires
-put_node-words-requires c = search room_for_a_node
+pub copied-words-requires : goal.copied-words-requires
+copied-words-requires c = search room_for_a_node
 
-pub loop-n-preserved : goal.loop-n-preserved
-loop-n-preserved c = search planting_on
+pub loop-kind-preserved : goal.loop-kind-preserved
+loop-kind-preserved c = search planting_on
 
 pub returns : goal.returns
 returns c = search planting_ends

@@ -5,23 +5,23 @@ use Rattle.frame.proofs.assertions.tree_of.Goals as goal
 pub planted-requires : goal.planted-requires
 planted-requires c = search hot_kept_fits
 
-pub returns-then-number-eq1 : goal.returns-then-number-eq1
-returns-then-number-eq1 c = search first_tree
+pub returns-in-1 : goal.returns-in-1
+returns-in-1 c = search first_tree
 
-pub planted-requires-then-number-eq2 : goal.planted-requires-then-number-eq2
-planted-requires-then-number-eq2 c = search good_replaced_fits
+pub planted-requires-in-2 : goal.planted-requires-in-2
+planted-requires-in-2 c = search good_replaced_fits
 
-pub returns-then-number-eq2 : goal.returns-then-number-eq2
-returns-then-number-eq2 c = search second_tree
+pub returns-in-2 : goal.returns-in-2
+returns-in-2 c = search second_tree
 
-pub planted-requires-then-number-eq3 : goal.planted-requires-then-number-eq3
-planted-requires-then-number-eq3 c = search wrong_in_row_fits
+pub planted-requires-in-3 : goal.planted-requires-in-3
+planted-requires-in-3 c = search wrong_in_row_fits
 
-pub returns-then-number-eq3 : goal.returns-then-number-eq3
-returns-then-number-eq3 c = search third_tree
+pub returns-in-3 : goal.returns-in-3
+returns-in-3 c = search third_tree
 
-pub planted-requires-2 : goal.planted-requires-2
-planted-requires-2 c = search wrong_at_start_fits
+pub planted-requires-in_default : goal.planted-requires-in_default
+planted-requires-in_default c = search wrong_at_start_fits
 
-pub returns : goal.returns
-returns c = search fourth_tree
+pub returns-in_default : goal.returns-in_default
+returns-in_default c = search fourth_tree

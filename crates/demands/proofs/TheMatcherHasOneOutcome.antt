@@ -16,19 +16,20 @@ use contract.Monad.{Fun, fact}
 use Rattle.recording.specs.contracts.judged as judged
 use Rattle.runs.specs.Ends.{Gains}
 use Rattle.runs.proofs.Laws.{gains_once}
+use Rattle.runs.specs.contracts.table.Table.row as row_of_table
 use Rattle.runs.specs.contracts.add_ends as add_ends
 use Rattle.runs.specs.contracts.reach as reach
 use Rattle.joined_runs.specs.contracts.delayed as delayed
 use Rattle.joined_runs.specs.contracts.inside as inside
 use Rattle.repeated_runs.specs.contracts.repeated as repeated
-use Rattle.recorded_runs.specs.contracts.holds as holds
+use Rattle.recorded_runs.specs.contracts.Rows.holds as holds
 use Rattle.recorded_runs.specs.contracts.occurs as occurs
 use Rattle.recorded_runs.specs.contracts.counted as counted
 use Rattle.recorded_runs.specs.contracts.throughout as throughout
 use Rattle.matches.specs.Answers.{Says, Answered, Holds, Matches}
 use Rattle.matches.specs.contracts.matches as matches
-use Rattle.demands.specs.OneOutcome.{OneOutcome}
-use Rattle.demands.proofs.OneOutcome.{outcome, same, same_outcome, same_outcome_of_two, from_both, by_an_equation}
+use Rattle.demands.specs.OneOutcome.{OneOutcome, OneOutcomeUpTo}
+use Rattle.demands.proofs.OneOutcome.{outcome, same, same_outcome, same_outcome_of_two, from_both, from_all, by_an_equation}
 use Rattle.std.specs.Prelude.{Result, Ok, Err}
 use Rattle.meaning.specs.declared.refusal.Refusal.{Refusal}
 
@@ -75,36 +76,39 @@ module _ {M : Type 1} {𝓤 : Ura M} (𝓛 : Logic 𝓤) (mem : Memory → SProp
   pub recording_judged_has_one_outcome : OneOutcome 𝓤 judged.ended (judged.clauses 𝓛 mem run)
   recording_judged_has_one_outcome κs a g o o' = by_an_equation 𝓤
 
-  -- Ends that are added and reached.
+  -- A row of a table, and ends that are added and reached.
+  pub runs_row_has_one_outcome : OneOutcomeUpTo 𝓤 row_of_table.ended (row_of_table.clauses 𝓛 mem run) (λ κs a o o'. o.result.now ≡ o'.result.now)
+  runs_row_has_one_outcome κs a g o o' = from_all 𝓤 (λ p b p' b'. same p p')
+
   pub runs_add_ends_has_one_outcome : OneOutcome 𝓤 add_ends.ended (add_ends.clauses 𝓛 mem run)
-  runs_add_ends_has_one_outcome κs a g o o' = by_gaining (λ row. (tt, (tt, (tt, (row, tt)))))
+  runs_add_ends_has_one_outcome κs a g o o' = by_gaining (λ row. (tt, (tt, (row, tt))))
 
   pub runs_reach_has_one_outcome : OneOutcome 𝓤 reach.ended (reach.clauses 𝓛 mem run)
-  runs_reach_has_one_outcome κs a g o o' = by_gaining (λ row. (tt, (tt, (tt, (tt, (tt, (row, tt)))))))
+  runs_reach_has_one_outcome κs a g o o' = by_gaining (λ row. (tt, (tt, (tt, (tt, (row, tt))))))
 
   -- A delay and a within.
   pub joined_runs_delayed_has_one_outcome : OneOutcome 𝓤 delayed.ended (delayed.clauses 𝓛 mem run)
-  joined_runs_delayed_has_one_outcome κs a g o o' = by_gaining (λ row. (tt, (tt, (tt, (tt, (tt, (tt, (row, tt))))))))
+  joined_runs_delayed_has_one_outcome κs a g o o' = by_gaining (λ row. (tt, (tt, (tt, (tt, (tt, (row, tt)))))))
 
   pub joined_runs_inside_has_one_outcome : OneOutcome 𝓤 inside.ended (inside.clauses 𝓛 mem run)
-  joined_runs_inside_has_one_outcome κs a g o o' = by_gaining (λ row. (tt, (tt, (tt, (tt, (row, tt))))))
+  joined_runs_inside_has_one_outcome κs a g o o' = by_gaining (λ row. (tt, (tt, (tt, (row, tt)))))
 
   -- A repetition.
   pub repeated_runs_repeated_has_one_outcome : OneOutcome 𝓤 repeated.ended (repeated.clauses 𝓛 mem run)
-  repeated_runs_repeated_has_one_outcome κs a g o o' = by_gaining (λ row. (tt, (tt, (tt, (tt, (tt, (row, tt)))))))
+  repeated_runs_repeated_has_one_outcome κs a g o o' = by_gaining (λ row. (tt, (tt, (tt, (tt, (row, tt))))))
 
   -- What is read off recorded rows.
   pub recorded_runs_holds_has_one_outcome : OneOutcome 𝓤 holds.ended (holds.clauses 𝓛 mem run)
   recorded_runs_holds_has_one_outcome κs a g o o' = by_an_equation 𝓤
 
   pub recorded_runs_occurs_has_one_outcome : OneOutcome 𝓤 occurs.ended (occurs.clauses 𝓛 mem run)
-  recorded_runs_occurs_has_one_outcome κs a g o o' = by_gaining (λ row. (tt, (tt, (tt, (tt, (row, tt))))))
+  recorded_runs_occurs_has_one_outcome κs a g o o' = by_gaining (λ row. (tt, (tt, (tt, (row, tt)))))
 
   pub recorded_runs_counted_has_one_outcome : OneOutcome 𝓤 counted.ended (counted.clauses 𝓛 mem run)
-  recorded_runs_counted_has_one_outcome κs a g o o' = by_gaining (λ row. (tt, (tt, (tt, (tt, (tt, (tt, (row, tt))))))))
+  recorded_runs_counted_has_one_outcome κs a g o o' = by_gaining (λ row. (tt, (tt, (tt, (tt, (tt, (row, tt)))))))
 
   pub recorded_runs_throughout_has_one_outcome : OneOutcome 𝓤 throughout.ended (throughout.clauses 𝓛 mem run)
-  recorded_runs_throughout_has_one_outcome κs a g o o' = by_gaining (λ row. (tt, (tt, (tt, (tt, (tt, (tt, (row, tt))))))))
+  recorded_runs_throughout_has_one_outcome κs a g o o' = by_gaining (λ row. (tt, (tt, (tt, (tt, (row, tt))))))
 
   -- The matcher: what it returns, the answers, and work.
   pub matches_has_one_outcome : OneOutcome 𝓤 matches.ended (matches.clauses 𝓛 mem run)

@@ -1,16 +1,16 @@
 -- The lowest end of the runs of a table that begin at i or later is found row by row, and says which runs of another table one of them
 -- lies in. It assumes nothing.
-use mathlib.Core.Path.{◌≡◌, subst, sym}
-use Rattle.std.specs.Prelude.{Option, Some, None, MatchOption}
-use Rattle.std.specs.Option.{unwrap_or}
+use mathlib.Core.Path.{◌≡◌, subst}
 use mathlib.Core.Logic.{◌⊎◌, inl, inr, ⊎_elim, ◌↔◌}
 use mathlib.Core.List.{List}
-use Prim.Native.Nat.{ℕ, ◌+◌, ◌*◌, ◌≤◌, ◌<◌}
+use Prim.Native.Nat.{ℕ, ◌+◌, ◌≤◌, ◌<◌}
 use native.Mathlib.Omega.{arith}
 use native.Mathlib.Decide.{ℕ_discrete, dec_le}
 use lib.ListN.{length}
-use Rattle.runs.specs.Ends.{Gains, Kept}
-use Rattle.runs.proofs.Laws.{row_inside, gains_as}
+use Rattle.runs.specs.Ends.{Gains}
+use Rattle.runs.specs.Tables.{RunsOf, RowOf}
+use Rattle.runs.specs.declared.table.Table.{Table}
+use Rattle.runs.proofs.Laws.{gains_as}
 use Rattle.runs.proofs.Reaching.{Added}
 use Rattle.joined_runs.specs.Joined.{Within, Lowest, EndsFrom}
 
@@ -33,79 +33,46 @@ lowest_then {P} {Q} {high} {end} {r} w v = record {
   none_below = λ j l. ⊎_elim (w.none_below j (omega (arith, v.inside))) (v.none_below j l);
 }
 
--- The first number of a range that P holds of, or else `high`, is the lowest.
-pub lowest_found : {P : ℕ → Type 0} {first r : ℕ} (high : ℕ) (found : Option ℕ)
-    → MatchOption found
-    ((k : ℕ) → first ≤ k → k < high → P k → ⊥)
-    (λ i. (first ≤ i) × (i < high) × P i × ((k : ℕ) → first ≤ k → k < i → P k → ⊥))
-    → r ≡ unwrap_or found high → Lowest (λ j. (first ≤ j) × P j) high r
-lowest_found high None none e = record {
-  inside = omega arith;
-  holds = λ l. absurd (omega arith);
-  none_below = λ j l (f, p). none j f (omega arith) p;
-}
-lowest_found {P} high (Some i) (first, below, holds, none) e = record {
-  inside = omega arith;
-  holds = λ l. (omega arith, subst P (sym e) holds);
-  none_below = λ j l (f, p). none j f (omega arith) p;
-}
-
 -- The lowest end of the runs that begin at i or later and before n.
-pub record Lowering (tables : List ℕ) (table side i end n : ℕ) : Type 0 where
+pub record Lowering (table : Table) (i end n : ℕ) : Type 0 where
   pub since : i ≤ n
-  pub lowest : Lowest (λ j. (k : ℕ) × (k < n) × (i ≤ k) × Kept tables table side k j) side end
+  pub lowest : Lowest (λ j. (k : ℕ) × (k < n) × (i ≤ k) × RunsOf table k j) table.side end
 
--- At first no row was looked at, and there is no end.
-pub lowering_begins : (tables : List ℕ) (table side i : ℕ) → Lowering tables table side i side i
-lowering_begins tables table side i = record {
-  since = omega arith;
-  lowest = record {
-    inside = omega arith;
-    holds = λ l. absurd (omega arith);
-    none_below = λ j l (k, p, q, e). omega arith;
-  };
-}
+module _ {table : Table} {i end n : ℕ} (w : Lowering table i end n) where
+  -- The runs that begin at n may have a lower one.
+  pub lowering_on : {row : List ℕ} {r : ℕ} → RowOf (RunsOf table) table.side n row → Lowest (Added row n) end r → Lowering table i r (n + 1)
+  lowering_on o v = record {
+    since = omega (arith, w.since);
+    lowest = lowest_as
+        (λ j l. (
+          ⊎_elim (λ (k, p, q, e). (k, omega arith, q, e)) (λ (f, e). (n, omega arith, w.since, (o.runs j f).0 e)),
+          λ (k, p, q, e). elim (ℕ_discrete k n) [
+            | yes z ↦ let f : n ≤ j = omega (arith, e.0) in inr (f, (o.runs j f).1 (rw z at e))
+            | no z ↦ inl (k, omega arith, q, e)
+          ],
+        ))
+        (lowest_then w.lowest v);
+  }
 
--- The row from n on, up to the lowest end, lies inside of the table.
-pub lowering_inside : {tables : List ℕ} {table side i end n : ℕ} → Lowering tables table side i end n
-    → table + side * side ≤ length tables → n < side → table + n * side + end ≤ length tables
-lowering_inside {tables} {table} {side} {n = n} w h l =
-    omega (arith, row_inside table n side (length tables) h l, w.lowest.inside)
-
--- The runs that begin at n may have a lower one.
-pub lowering_on : {tables : List ℕ} {table side i end n r : ℕ} → Lowering tables table side i end n
-    → Lowest (Added tables (table + n * side) n) end r → Lowering tables table side i r (n + 1)
-lowering_on {n = n} w v = record {
-  since = omega (arith, w.since);
-  lowest = lowest_as
-      (λ j l. (
-        ⊎_elim (λ (k, p, q, e). (k, omega arith, q, e)) (λ (f, e). (n, omega arith, w.since, (f, l, e))),
-        λ (k, p, q, e). elim (ℕ_discrete k n) [
-          | yes z ↦ inr (omega (arith, e.0), rw z at e.2)
-          | no z ↦ inl (k, omega arith, q, e)
-        ],
-      ))
-      (lowest_then w.lowest v);
-}
-
--- In the end all rows were looked at.
-pub lowering_ends : {tables : List ℕ} {table side i end n : ℕ} → Lowering tables table side i end n → side ≤ n
-    → Lowest (EndsFrom tables table side i) side end
-lowering_ends w l =
-    lowest_as (λ j h. (λ (k, p, q, e). (k, q, e), λ (k, q, e). (k, omega (arith, e.0), q, e))) w.lowest
+  -- In the end all rows were looked at that have an end below the lowest.
+  pub lowering_ends : end ≤ n → Lowest (EndsFrom (RunsOf table) i) table.side end
+  lowering_ends l = record {
+    inside = w.lowest.inside;
+    holds = λ p. let (k, q, o, e) = w.lowest.holds p in (k, o, e);
+    none_below = λ j p (k, o, e). w.lowest.none_below j p (k, omega (arith, e.0), o, e);
+  }
 
 -- A run of the first table lies in the run of the second that ends at j where the lowest end is at most j.
-pub ends_inside : (tables : List ℕ) (one two i : ℕ) {end : ℕ} {before after : List ℕ}
-    → Lowest (EndsFrom tables one (length before) i) (length before) end
-    → Gains before after (Added tables (two + i * length before) end)
-    → Gains before after (Within tables one two (length before) i)
-ends_inside tables one two i {end} w g =
+pub ends_inside : (one two : Table) (i : ℕ) {side end : ℕ} {row before after : List ℕ} → length before ≡ one.side → side ≡ two.side
+    → Lowest (EndsFrom (RunsOf one) i) one.side end → RowOf (RunsOf two) side i row → Gains before after (Added row end)
+    → Gains before after (Within (RunsOf one) (RunsOf two) i)
+ends_inside one two i {end = end} a z w o g =
     gains_as
     (λ j l. (
-      λ (p, e). let (k, q, o) = w.holds (omega arith) in (k, end, (omega (arith, o.0), l, e), q, p, o),
+      λ (p, e). let (k, q, x) = w.holds (omega arith) in (k, end, (o.runs j (omega (arith, x.0))).0 e, q, p, x),
       λ (i', j', r, p, q, s). (
         elim (dec_le end j) [ yes h ↦ h | no h ↦ absurd (w.none_below j' (omega arith) (i', p, s)) ],
-        r.2,
+        (o.runs j (omega (arith, r.0))).1 r,
       ),
     ))
     g

@@ -15,12 +15,15 @@ use Rattle.meaning.specs.Kinds.{columns}
 use Rattle.meaning.specs.Match.{Occurs, Match}
 use Rattle.meaning.specs.Lowerable.{WellFormed}
 use Rattle.meaning.specs.declared.Node.{Node}
+use denote.Ref.{Bor}
 use Rattle.runs.specs.Ends.{Gains, Stands}
+use Rattle.runs.specs.Tables.{RunsOf}
+use Rattle.runs.specs.declared.Table.{Table}
 use Rattle.runs.proofs.Laws.{gains_as}
 use Rattle.joined_runs.specs.Joined.{Delayed, Within}
 use Rattle.repeated_runs.specs.Repeated.{Repeated}
 use Rattle.recorded_runs.specs.Recorded.{recorded, Counted, Throughout}
-use Rattle.matches.specs.Tables.{table_of, Ready}
+use Rattle.matches.specs.Tables.{table_of, TableOf, Ready}
 use Rattle.matches.proofs.TablesApart.{ends_before}
 use Rattle.matches.proofs.NodesOfRightTables.{occurs_matched, delayed_matched, repeated_matched, goto_matched, nonconsec_matched, throughout_matched, inside_matched}
 
@@ -34,8 +37,8 @@ module _ {tree rows : List ℕ} {width side : ℕ} {tables : List ℕ} {n : ℕ}
   operand_few l = omega (arith, ready.inside, ready.fillable.few)
 
   -- The table of a lower node stands among the others.
-  pub operand_stands : {k place : ℕ} → k < n → place ≡ table_of side k → Stands tables place side
-  operand_stands {k} l e =
+  pub operand_stands : {k : ℕ} → k < n → Stands tables (table_of side k) side
+  operand_stands {k} l =
       omega (arith, ready.fillable.enough, ends_before (side * side) {k = k} {n = nodes tree} (omega (arith, ready.inside)))
 
   module _ {v : Node} (w : v ≡ node_at tree n) where
@@ -54,10 +57,6 @@ module _ {tree rows : List ℕ} {width side : ℕ} {tables : List ℕ} {n : ℕ}
 
     pub delay_right_below : v.kind ≡ 2 → v.q < n
     delay_right_below k = formed.delay_right k
-
-    -- The operand of a throughout is lower, and its condition stands in the row.
-    pub covered_below : v.kind ≡ 6 → v.q < n
-    covered_below k = formed.throughout_under k
 
     pub condition_recorded : v.kind ≡ 6 → v.p < width
     unfolding columns pick
@@ -91,41 +90,46 @@ module _ {tree rows : List ℕ} {width side : ℕ} {tables : List ℕ} {n : ℕ}
           let atom = ready.fillable.over_atoms n ready.inside (rw w at counts) in
           rw (z, w) (ready.fillable.atoms (node_at tree n).p (rw w at inside) (rw atom refl))
 
--- The ends that are added are those of what the node's tree matches.
-module _ {tree rows : List ℕ} {width : ℕ} {tables row row' : List ℕ} {n i : ℕ} {v : Node}
-    (ready : Ready tree rows width (length row) tables n) (w : v ≡ node_at tree n) where
-  -- The ends added of an atom are those that its tree matches.
-  pub occurs_added : v.kind ≡ 1 → Gains row row' (Occurs (recorded rows width) v.p i)
-      → Gains row row' (Match (recorded rows width) (tree_at tree n) i)
-  occurs_added k g = gains_as (λ j l. rw w (occurs_matched tree rows width (length row) tables n ready (rw w at k) i j l)) g
+-- The ends added of an atom are those that its tree matches.
+pub occurs_added : {tree rows : List ℕ} {width : ℕ} {tables row row' : List ℕ} {n i : ℕ} {v : Node} → Ready tree rows width (length row) tables n
+    → v ≡ node_at tree n → v.kind ≡ 1 → Gains row row' (Occurs (recorded rows width) v.p i)
+    → Gains row row' (Match (recorded rows width) (tree_at tree n) i)
+occurs_added {tree} {rows} {width} {tables} {row} {n = n} {i} ready w k g =
+    gains_as (λ j l. rw w (occurs_matched tree rows width (length row) tables n ready (rw w at k) i j l)) g
 
+-- The ends added from the tables of a node's operands are those of what the node's tree matches.
+module _ {tree rows : List ℕ} {width : ℕ} {tables : Bor (List ℕ)} {row row' : List ℕ} {n i : ℕ} {v : Node}
+    (ready : Ready tree rows width (length row) tables.now n) (w : v ≡ node_at tree n) where
   -- The ends added of a delay are those that its tree matches.
-  pub delayed_added : {left right : ℕ} → v.kind ≡ 2 → left ≡ table_of (length row) v.p → right ≡ table_of (length row) v.q
-      → Gains row row' (Delayed tables left right (length row) v.min v.max i)
-      → Gains row row' (Match (recorded rows width) (tree_at tree n) i)
-  delayed_added k l r g = gains_as (λ j h. rw (l, r, w) (delayed_matched tree rows width (length row) tables n ready (rw w at k) i j h)) g
+  pub delayed_added : {left right : Table} → v.kind ≡ 2 → TableOf left tables (length row) v.p → TableOf right tables (length row) v.q
+      → Gains row row' (Delayed (RunsOf left) (RunsOf right) v.min v.max i) → Gains row row' (Match (recorded rows width) (tree_at tree n) i)
+  delayed_added k l r g = gains_as
+      (λ j h. rw (l.bytes, l.place, l.side_is, r.bytes, r.place, r.side_is, w) (delayed_matched tree rows width (length row) tables.now n ready (rw w at k) i j h))
+      g
 
   -- The ends added of a consecutive repetition are those that its tree matches.
-  pub repeated_added : {under : ℕ} → v.kind ≡ 3 → under ≡ table_of (length row) v.p
-      → Gains row row' (Repeated tables under (length row) v.min v.max i)
+  pub repeated_added : {under : Table} → v.kind ≡ 3 → TableOf under tables (length row) v.p → Gains row row' (Repeated (RunsOf under) v.min v.max i)
       → Gains row row' (Match (recorded rows width) (tree_at tree n) i)
-  repeated_added k u g = gains_as (λ j h. rw (u, w) (repeated_matched tree rows width (length row) tables n ready (rw w at k) i j h)) g
+  repeated_added k u g =
+      gains_as (λ j h. rw (u.bytes, u.place, u.side_is, w) (repeated_matched tree rows width (length row) tables.now n ready (rw w at k) i j h)) g
 
   -- The ends added of a throughout are those that its tree matches.
-  pub throughout_added : {under : ℕ} → v.kind ≡ 6 → under ≡ table_of (length row) v.q
-      → Gains row row' (Throughout tables under (length row) rows width v.p i)
-      → Gains row row' (Match (recorded rows width) (tree_at tree n) i)
-  throughout_added k u g = gains_as (λ j h. rw (u, w) (throughout_matched tree rows width (length row) tables n ready (rw w at k) i j h)) g
+  pub throughout_added : {under : Table} → v.kind ≡ 6 → TableOf under tables (length row) v.q
+      → Gains row row' (Throughout (RunsOf under) (recorded rows width) v.p i) → Gains row row' (Match (recorded rows width) (tree_at tree n) i)
+  throughout_added k u g =
+      gains_as (λ j h. rw (u.bytes, u.place, u.side_is, w) (throughout_matched tree rows width (length row) tables.now n ready (rw w at k) i j h)) g
 
   -- The ends added of a within are those that its tree matches.
-  pub inside_added : {one two : ℕ} → v.kind ≡ 7 → one ≡ table_of (length row) v.p → two ≡ table_of (length row) v.q
-      → Gains row row' (Within tables one two (length row) i) → Gains row row' (Match (recorded rows width) (tree_at tree n) i)
-  inside_added k l r g = gains_as (λ j h. rw (l, r, w) (inside_matched tree rows width (length row) tables n ready (rw w at k) i j h)) g
+  pub inside_added : {one two : Table} → v.kind ≡ 7 → TableOf one tables (length row) v.p → TableOf two tables (length row) v.q
+      → Gains row row' (Within (RunsOf one) (RunsOf two) i) → Gains row row' (Match (recorded rows width) (tree_at tree n) i)
+  inside_added k l r g = gains_as
+      (λ j h. rw (l.bytes, l.place, l.side_is, r.bytes, r.place, r.side_is, w) (inside_matched tree rows width (length row) tables.now n ready (rw w at k) i j h))
+      g
 
 -- The ends added of a goto or nonconsecutive repetition, whose operand has the words u, are those that its tree matches.
 pub counted_added : {tree rows : List ℕ} {width : ℕ} {tables row row' : List ℕ} {n : ℕ} {v u : Node} (i : ℕ)
     → Ready tree rows width (length row) tables n → v ≡ node_at tree n → (v.kind ≡ 4) ⊎ (v.kind ≡ 5) → u ≡ node_at tree v.p
-    → Gains row row' (Counted (eqb v.kind 5) rows width u.p v.min i)
+    → Gains row row' (Counted (eqb v.kind 5) (recorded rows width) u.p v.min i)
     → Gains row row' (Match (recorded rows width) (tree_at tree n) i)
 counted_added {tree} {rows} {width} {tables} {row} {n = n} {v} i ready w (inl k) z g =
     gains_as (λ j h. rw (ne_eqb v.kind 5 (λ e. omega arith), z, w) (goto_matched tree rows width (length row) tables n ready (rw w at k) i j h)) g

@@ -58,7 +58,7 @@ module _ (tree rows : List ℕ) (width side : ℕ) (tables : List ℕ) (n : ℕ)
   occurs_matched e i j h = rw (at_atom tree n e) (λ x. x, λ x. x)
 
   -- A delay's runs join the operands' runs.
-  pub delayed_matched : v.kind ≡ 2 → SameBelow side (Delayed tables (table_of side v.p) (table_of side v.q) side v.min v.max) matched
+  pub delayed_matched : v.kind ≡ 2 → SameBelow side (Delayed (Kept tables (table_of side v.p) side) (Kept tables (table_of side v.q) side) v.min v.max) matched
   delayed_matched e i j h = rw (at_delay tree n e (formed.delay_left e) (formed.delay_right e)) (
     λ (d, l, u, x). (d, l, up_to_the_word d v.max u, (joined d).0 x),
     λ (d, l, u, x). (
@@ -79,7 +79,7 @@ module _ (tree rows : List ℕ) (width side : ℕ) (tables : List ℕ) (n : ℕ)
       joined d = join_same side _ right (ready.right (inl e)).runs (forward v.q) d _ left (ready.left (inl e)).runs i j h
 
   -- A consecutive repetition's runs repeat the operand's runs.
-  pub repeated_matched : v.kind ≡ 3 → SameBelow side (Repeated tables (table_of side v.p) side v.min v.max) matched
+  pub repeated_matched : v.kind ≡ 3 → SameBelow side (Repeated (Kept tables (table_of side v.p) side) v.min v.max) matched
   repeated_matched e i j h = rw (at_consec tree n e (formed.consec_under e)) (
     λ (c, l, u, xs). (c, l, up_to_the_word c v.max u, (copies c).0 xs),
     λ (c, l, u, xs).
@@ -96,23 +96,23 @@ module _ (tree rows : List ℕ) (width side : ℕ) (tables : List ℕ) (n : ℕ)
       copies c = times_same side _ under (ready.repeated e).runs (forward v.p) c i j h
 
   -- A goto repetition's runs go from one tick of its atom to the next.
-  pub goto_matched : v.kind ≡ 4 → SameBelow side (Counted false rows width (node_at tree v.p).p v.min) matched
+  pub goto_matched : v.kind ≡ 4 → SameBelow side (Counted false (recorded rows width) (node_at tree v.p).p v.min) matched
   goto_matched e i j h =
       rw (at_goto tree n e (formed.goto_under e), at_atom tree v.p (ready.fillable.over_atoms n ready.inside (inl e))) (λ x. x, λ x. x)
 
   -- A nonconsecutive repetition's runs may go on behind the last tick of its atom.
-  pub nonconsec_matched : v.kind ≡ 5 → SameBelow side (Counted true rows width (node_at tree v.p).p v.min) matched
+  pub nonconsec_matched : v.kind ≡ 5 → SameBelow side (Counted true (recorded rows width) (node_at tree v.p).p v.min) matched
   nonconsec_matched e i j h =
       rw (at_nonconsec tree n e (formed.nonconsec_under e), at_atom tree v.p (ready.fillable.over_atoms n ready.inside (inr e))) (λ x. x, λ x. x)
 
   -- A throughout's runs are the operand's runs at every tick of which the condition holds.
-  pub throughout_matched : v.kind ≡ 6 → SameBelow side (Throughout tables (table_of side v.q) side rows width v.p) matched
+  pub throughout_matched : v.kind ≡ 6 → SameBelow side (Throughout (Kept tables (table_of side v.q) side) (recorded rows width) v.p) matched
   throughout_matched e i j h =
       let under = (ready.under e).runs i j h in
       rw (at_throughout tree n e (formed.throughout_under e)) (λ (x, y). (under.0 x, y), λ (x, y). (under.1 x, y))
 
   -- A within's runs are the runs of its second operand that one of the first lies in.
-  pub inside_matched : v.kind ≡ 7 → SameBelow side (Within tables (table_of side v.p) (table_of side v.q) side) matched
+  pub inside_matched : v.kind ≡ 7 → SameBelow side (Within (Kept tables (table_of side v.p) side) (Kept tables (table_of side v.q) side)) matched
   inside_matched e i j h =
       rw (at_within tree n e (formed.within_one e) (formed.within_two e))
       (inside_same side _ _ _ _ (ready.left (inr e)).runs (ready.right (inr e)).runs i j h)

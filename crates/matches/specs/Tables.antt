@@ -7,12 +7,20 @@ use Rattle.meaning.specs.Match.{Match}
 use Rattle.meaning.specs.Lowerable.{FormedTable}
 use Rattle.meaning.specs.declared.Part.TheVariants.{Atom}
 use Rattle.meaning.specs.declared.Node.{Node}
+use denote.Ref.{Bor}
 use Rattle.runs.specs.Ends.{In, Kept}
+use Rattle.runs.specs.declared.Table.{Table}
 use Rattle.recorded_runs.specs.Recorded.{recorded, Covers}
 
 -- Where the table of node n begins.
 abbrev pub table_of : ℕ → ℕ → ℕ
 table_of side n = n * (side * side)
+
+-- The table of node n as the code has it, in the slice that all tables stand in.
+pub record TableOf (table : Table) (tables : Bor (List ℕ)) (side n : ℕ) : Type 0 where
+  pub bytes : table.bytes ≡ tables
+  pub place : table.place ≡ table_of side n
+  pub side_is : table.side ≡ side
 
 -- The table of node n has the runs that its tree matches.
 pub record Right (tree rows : List ℕ) (width side : ℕ) (tables : List ℕ) (n : ℕ) : Type 0 where

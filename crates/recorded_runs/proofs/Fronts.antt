@@ -1,14 +1,17 @@
 -- The ends of a throughout are those of the table's row up to the last end of the condition: they are added to the front of the row alone.
-use mathlib.Core.Path.{◌≡◌, refl, sym, ap, ◌∙◌}
+use mathlib.Core.Path.{◌≡◌, refl, ap, ◌∙◌}
 use mathlib.Core.Logic.{inr}
 use mathlib.Core.List.{List, ◌++◌}
-use Prim.Native.Nat.{ℕ, ◌+◌, ◌-◌, ◌*◌, ◌≤◌, ◌<◌}
+use Prim.Native.Nat.{ℕ, ◌+◌, ◌-◌, ◌≤◌, ◌<◌}
 use native.Mathlib.Decide.{dec_le}
 use native.Mathlib.Omega.{arith}
 use lib.ListN.{length, get_or, take, drop, get_or-append}
 use lib.Seq.{length-take-le, length_front, get_or-take, get_or-drop, get_or-append-add}
+use mathlib.Core.Bool.{Bool}
 use Rattle.runs.specs.Ends.{Marked, Gains}
-use Rattle.runs.proofs.Laws.{Gaining, marked_as, gains_as, row_inside}
+use Rattle.runs.specs.Tables.{RunsOf, RowOf}
+use Rattle.runs.specs.declared.table.Table.{Table}
+use Rattle.runs.proofs.Laws.{Gaining, marked_as, gains_as}
 use Rattle.runs.proofs.Reaching.{Added}
 use Rattle.recorded_runs.specs.Recorded.{Last, Throughout}
 
@@ -36,25 +39,16 @@ front_gains {row} {front} {P} k h g = record { long = length_front row front k g
               (marked_as (λ x. (q, x), λ x. x.1) (g.marked j (omega (arith, length-take-le k row h))))
         ]
 
--- The front reaches up to the last end of the condition.
-module _ {rows : List ℕ} {width c i last : ℕ} (row : List ℕ) (s : Last rows width c i (length row) last) where
-  -- The front has a byte for each end up to the last.
-  pub front_long : last + 1 ≡ length (take (last + 1) row)
-  front_long = sym (length-take-le (last + 1) row (omega (arith, s.inside)))
-
-  -- The table's row is as long at least.
-  pub front_inside : (tables : List ℕ) (table : ℕ) → table + length row * length row ≤ length tables → i < length row
-      → table + i * length row + length (take (last + 1) row) ≤ length tables
-  front_inside tables table h l =
-      omega (arith, row_inside table i (length row) (length tables) h l, front_long, s.inside)
-
-  -- If it gained the ends of the table's row, then the row gained those of the throughout.
-  pub throughout_gained : (tables : List ℕ) (table : ℕ) {front : List ℕ} → Gains (take (last + 1) row) front (Added tables (table + i * length row) i)
-      → Gains row (front ++ drop (last + 1) row) (Throughout tables table (length row) rows width c i)
-  throughout_gained tables table g =
-      gains_as
-      (λ j l. (
-        λ (u, (f, e)). ((f, l, e), λ k p q. s.always k p (omega arith)),
-        λ ((f, _, e), a). (elim (dec_le j last) [ yes u ↦ omega arith | no u ↦ absurd (s.longest j (omega arith) l a) ], (f, e)),
-      ))
-      (front_gains (last + 1) (omega (arith, s.inside)) g)
+-- If the front, up to the last end of the condition, gained the ends of the table's row, then the row gained those of the throughout.
+pub throughout_gained : (t : Table) {σ : ℕ → ℕ → Bool} {c i last side : ℕ} (row : List ℕ) {ends front : List ℕ} → Last σ c i (length row) last
+    → RowOf (RunsOf t) side i ends → Gains (take (last + 1) row) front (Added ends i) → Gains row (front ++ drop (last + 1) row) (Throughout (RunsOf t) σ c i)
+throughout_gained t {last = last} row s o g =
+    gains_as
+    (λ j l. (
+      λ (u, (f, e)). ((o.runs j f).0 e, λ k p q. s.always k p (omega arith)),
+      λ (r, a). (
+        elim (dec_le j last) [ yes u ↦ omega arith | no u ↦ absurd (s.longest j (omega arith) l a) ],
+        (r.0, (o.runs j r.0).1 r),
+      ),
+    ))
+    (front_gains (last + 1) (omega (arith, s.inside)) g)

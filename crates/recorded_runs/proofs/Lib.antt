@@ -1,4 +1,3 @@
 pub mod Counting
 pub mod Fronts
-pub mod Lasting
 pub mod Often

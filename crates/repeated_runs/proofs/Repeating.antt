@@ -6,25 +6,26 @@ use mathlib.Core.Logic.{◌↔◌, inl, inr, ⊎_elim}
 use mathlib.Core.List.{List, ◌++◌}
 use Prim.Native.Nat.{ℕ, suc, ◌+◌, ◌≤◌, ◌<◌, min as lesser}
 use native.Mathlib.Omega.{arith}
-use native.Mathlib.Nat.{zero-add}
 use native.Mathlib.Numerals.{add-one}
 use native.Mathlib.Decide.{ℕ_discrete, dec_le}
-use lib.ListN.{length, get_or, set, take, drop, replicate, length-set}
+use lib.ListN.{length, set, take, drop, replicate, length-set}
 use lib.Dec.{eqb}
 use lib.Pointwise.{pointwise}
 use Rattle.meaning.specs.Match.{Times}
 use Rattle.meaning.proofs.RunLaws.{times_forward}
-use Rattle.runs.specs.Ends.{Gains, In, Kept, Reached}
+use Rattle.runs.specs.Ends.{Gains, In, Reached}
+use Rattle.runs.specs.Tables.{RunsOf}
+use Rattle.runs.specs.declared.table.Table.{Table}
 use Rattle.runs.proofs.Laws.{gains_none, gains_as, gains_then, gains_one, in_gained, zeros_blank, in_gained_blank}
 use Rattle.repeated_runs.specs.Repeated.{Repeated, Alike, Carries, Last, Onward}
 use Rattle.repeated_runs.proofs.Copies.{settled, no_highest, that_or_more}
 use Rattle.repeated_runs.proofs.Closing.{kept_forward}
 use Rattle.repeated_runs.proofs.Rows.{alike_parts, part_long, part_carries, whole_long, whole_carries}
 
-module _ (tables : List ℕ) (table side i : ℕ) where
+module _ (t : Table) (side i : ℕ) where
   -- An end that so many copies reach from i.
   abbrev By : ℕ → ℕ → Type 0
-  By copies = Times copies (Kept tables table side) i
+  By copies = Times copies (RunsOf t) i
 
   -- An end that one of the counts from low on and below n reaches.
   abbrev Below : ℕ → ℕ → ℕ → Type 0
@@ -32,7 +33,7 @@ module _ (tables : List ℕ) (table side i : ℕ) where
 
   -- No end lies before the start.
   from_the_start : (copies j : ℕ) → By copies j → i ≤ j
-  from_the_start copies j xs = times_forward (Kept tables table side) (kept_forward tables table side) copies i j xs
+  from_the_start copies j xs = times_forward (RunsOf t) (kept_forward t) copies i j xs
 
   -- A row with the start alone carries what no copies reach.
   start_carries : {row : List ℕ} → row ≡ replicate 257 0 → length row ≡ 257 → i < side → side ≤ 257 → Carries (set row i 1) side (By 0)
@@ -44,7 +45,7 @@ module _ (tables : List ℕ) (table side i : ℕ) where
 
   -- From the ends of some copies the table reaches those of one more.
   more_carries : (copies : ℕ) {ends next : List ℕ} → length ends ≡ 257 → side ≤ 257 → Carries ends side (By copies)
-      → Carries next (length (take side ends)) (Reached tables table (length (take side ends)) (take side ends) i 0)
+      → Carries next (length (take side ends)) (Reached (RunsOf t) (take side ends) i 0)
       → Carries next side (By (suc copies))
   more_carries copies {ends} {next} w f C N = record {
     ends = λ j l. let (on, back) = reached.ends j l in (
@@ -56,23 +57,23 @@ module _ (tables : List ℕ) (table side i : ℕ) where
       part : Carries (take side ends) side (By copies)
       part = part_carries ends side w f C
 
-      reached : Carries next side (Reached tables table side (take side ends) i 0)
+      reached : Carries next side (Reached (RunsOf t) (take side ends) i 0)
       reached = rw (part_long ends side w f) at N
 
   -- The ends of some copies, closed under the table's runs, are those of each count from there on.
   closed_carries : (copies : ℕ) {ends closed : List ℕ} → length ends ≡ 257 → side ≤ 257 → Carries ends side (By copies)
-      → Gains (take side ends) closed (Onward (Kept tables table side) (take side ends) i)
+      → Gains (take side ends) closed (Onward (RunsOf t) (take side ends) i)
       → Carries (closed ++ drop side ends) side (λ j. (c : ℕ) × (copies ≤ c) × By c j)
   closed_carries copies {ends} {closed} w f C g = whole_carries ends side w f g each
     where
       part : Carries (take side ends) side (By copies)
       part = part_carries ends side w f C
 
-      below : (c k j : ℕ) → j < side → Times c (Kept tables table side) k j → k < side
-      below c k j l xs = omega (arith, times_forward (Kept tables table side) (kept_forward tables table side) c k j xs)
+      below : (c k j : ℕ) → j < side → Times c (RunsOf t) k j → k < side
+      below c k j l xs = omega (arith, times_forward (RunsOf t) (kept_forward t) c k j xs)
 
       onward : (j : ℕ) → j < side
-          → Onward (Kept tables table side) (take side ends) i j ↔ ((k : ℕ) × (d : ℕ) × By copies k × Times (suc d) (Kept tables table side) k j)
+          → Onward (RunsOf t) (take side ends) i j ↔ ((k : ℕ) × (d : ℕ) × By copies k × Times (suc d) (RunsOf t) k j)
       onward j l = (
         λ (k, d, p, e, ys). (k, d, (part.ends k (below (suc d) k j l ys)).0 e, ys),
         λ (k, d, xs, ys). (k, d, from_the_start copies k xs, (part.ends k (below (suc d) k j l ys)).1 xs, ys),
@@ -81,7 +82,7 @@ module _ (tables : List ℕ) (table side i : ℕ) where
       each : (j : ℕ) → j < side → In closed j ↔ ((c : ℕ) × (copies ≤ c) × By c j)
       each j l =
           let (on, back) = in_gained g j (omega (arith, part_long ends side w f)) in
-          let (up, down) = that_or_more (Kept tables table side) copies i j in (
+          let (up, down) = that_or_more (RunsOf t) copies i j in (
             λ x. up (⊎_elim (λ e. inl ((part.ends j l).0 e)) (λ o. inr ((onward j l).0 o)) (on x)),
             λ xs. back (⊎_elim (λ ys. inl ((part.ends j l).1 ys)) (λ ys. inr ((onward j l).1 ys)) (down xs)),
           )
@@ -104,7 +105,7 @@ module _ (tables : List ℕ) (table side i : ℕ) where
   -- With a row that carries each count from n on all counts up to high are added.
   all_gained : {low high : ℕ} (ends : List ℕ) (n : ℕ) {before after final : List ℕ} → length before ≡ side → low ≤ high → n ≤ high
       → Gains before after (Below low n) → ((c : ℕ) → n ≤ c → c ≤ high → Carries ends side (By c))
-      → Gains after final (λ j. (i ≤ j) × In ends j) → Gains before final (Repeated tables table side low high i)
+      → Gains after final (λ j. (i ≤ j) × In ends j) → Gains before final (Repeated (RunsOf t) low high i)
   all_gained {low} {high} ends n w o l g C h =
       gains_as
       (λ j k. (
@@ -124,7 +125,7 @@ module _ (tables : List ℕ) (table side i : ℕ) where
   same_carries copies C N same c p = record {
     ends = λ j l.
         let (on, back) = C.ends j l in
-        let (up, down) = settled (Kept tables table side) (kept_forward tables table side) side copies i again c p j l in
+        let (up, down) = settled (RunsOf t) (kept_forward t) side copies i again c p j l in
         (λ x. up (on x), λ xs. back (down xs));
   }
     where
@@ -135,68 +136,68 @@ module _ (tables : List ℕ) (table side i : ℕ) where
           (λ xs. on' (sym (same j l) ∙ back xs), λ xs. on (same j l ∙ back' xs))
 
 -- The counts from low on and below `copies` were added, and the row of ends carries those of `copies`.
-pub record Repeating (tables : List ℕ) (table low high i : ℕ) (before after ends : List ℕ) (copies : ℕ) : Type 0 where
+pub record Repeating (t : Table) (low high i : ℕ) (before after ends : List ℕ) (copies : ℕ) : Type 0 where
   pub few : copies ≤ high
   pub wide : length ends ≡ 257
-  pub carried : Carries ends (length before) (By tables table (length before) i copies)
-  pub gained : Gains before after (Below tables table (length before) i low copies)
+  pub carried : Carries ends (length before) (By t (length before) i copies)
+  pub gained : Gains before after (Below t (length before) i low copies)
 
 -- The counts from low on and below some were added, and the row of ends carries each from there on.
-pub record Made (tables : List ℕ) (table low high i : ℕ) (before after ends : List ℕ) : Type 0 where
+pub record Made (t : Table) (low high i : ℕ) (before after ends : List ℕ) : Type 0 where
   pub copies : ℕ
   pub few : copies ≤ high
   pub wide : length ends ≡ 257
-  pub carried : (c : ℕ) → copies ≤ c → c ≤ high → Carries ends (length before) (By tables table (length before) i c)
-  pub gained : Gains before after (Below tables table (length before) i low copies)
+  pub carried : (c : ℕ) → copies ≤ c → c ≤ high → Carries ends (length before) (By t (length before) i c)
+  pub gained : Gains before after (Below t (length before) i low copies)
 
 -- All that is left to add is the row of ends.
-pub record Lacking (tables : List ℕ) (table min max i : ℕ) (before after ends : List ℕ) : Type 0 where
+pub record Lacking (t : Table) (min max i : ℕ) (before after ends : List ℕ) : Type 0 where
   pub long : length after ≡ length before
   pub wide : length ends ≡ 257
   pub rest : {final : List ℕ} → Gains after final (λ j. (i ≤ j) × In ends j)
-      → Gains before final (Repeated tables table (length before) min max i)
+      → Gains before final (Repeated (RunsOf t) min max i)
 
 -- At first the row of ends has the start alone.
-pub repeating_begins : (tables : List ℕ) (table low high i : ℕ) (row : List ℕ) {ends : List ℕ}
+pub repeating_begins : (t : Table) (low high i : ℕ) (row : List ℕ) {ends : List ℕ}
     → ends ≡ replicate 257 0 → length ends ≡ 257 → i < length row → length row ≤ 257
-    → Repeating tables table low high i row row (set ends i 1) 0
-repeating_begins tables table low high i row {ends} e w l f = record {
+    → Repeating t low high i row row (set ends i 1) 0
+repeating_begins t low high i row {ends} e w l f = record {
   few = omega arith;
   wide = length-set ends i 1 ∙ w;
-  carried = start_carries tables table (length row) i e w l f;
+  carried = start_carries t (length row) i e w l f;
   gained = gains_none row _ (λ j k (c, q, r, xs). omega arith);
 }
 
-module _ {tables : List ℕ} {table low high i copies : ℕ} {before after ends : List ℕ}
-    (R : Repeating tables table low high i before after ends copies) where
+module _ {t : Table} {low high i copies : ℕ} {before after ends : List ℕ}
+    (R : Repeating t low high i before after ends copies) where
   module _ {after' next : List ℕ} (l : copies < high) (f : length before ≤ 257)
       (g : Gains after after' (λ j. (low ≤ copies) × (i ≤ j) × In ends j))
-      (N : Carries next (length (take (length before) ends)) (Reached tables table (length (take (length before) ends)) (take (length before) ends) i 0)) where
+      (N : Carries next (length (take (length before) ends)) (Reached (RunsOf t) (take (length before) ends) i 0)) where
     -- One copy more is made.
-    pub repeating_on : length next ≡ 257 → Repeating tables table low high i before after' next (copies + 1)
+    pub repeating_on : length next ≡ 257 → Repeating t low high i before after' next (copies + 1)
     repeating_on w = rw add-one record {
       few = omega arith;
       wide = w;
-      carried = more_carries tables table (length before) i copies R.wide f R.carried N;
-      gained = one_more_gained tables table (length before) i low copies refl R.carried R.gained g;
+      carried = more_carries t (length before) i copies R.wide f R.carried N;
+      gained = one_more_gained t (length before) i low copies refl R.carried R.gained g;
     }
 
     -- One copy more reaches the same ends, and so does each from there on.
     pub repeating_settles : {b : Bool} {row : List ℕ} → b ≡ pointwise eqb (take (length before) ends) (take (length before) next) → b ≡ true → row ≡ after'
-        → Made tables table low high i before row ends
+        → Made t low high i before row ends
     repeating_settles s e r = rw r record {
       copies = suc copies;
       few = omega arith;
       wide = R.wide;
-      carried = λ c p q. same_carries tables table (length before) i copies R.carried more (alike_parts ends next (length before) s e) c (omega arith);
-      gained = one_more_gained tables table (length before) i low copies refl R.carried R.gained g;
+      carried = λ c p q. same_carries t (length before) i copies R.carried more (alike_parts ends next (length before) s e) c (omega arith);
+      gained = one_more_gained t (length before) i low copies refl R.carried R.gained g;
     }
       where
-        more : Carries next (length before) (By tables table (length before) i (suc copies))
-        more = more_carries tables table (length before) i copies R.wide f R.carried N
+        more : Carries next (length before) (By t (length before) i (suc copies))
+        more = more_carries t (length before) i copies R.wide f R.carried N
 
   -- The last count is come to.
-  pub repeating_ends : {row : List ℕ} → high ≤ copies → row ≡ after → Made tables table low high i before row ends
+  pub repeating_ends : {row : List ℕ} → high ≤ copies → row ≡ after → Made t low high i before row ends
   repeating_ends l r = rw r record {
     copies = copies;
     few = R.few;
@@ -205,31 +206,31 @@ module _ {tables : List ℕ} {table low high i copies : ℕ} {before after ends 
     gained = R.gained;
   }
 
-module _ (min max : ℕ) {tables : List ℕ} {table low high i : ℕ} {before after ends : List ℕ} (M : Made tables table low high i before after ends)
+module _ (min max : ℕ) {t : Table} {low high i : ℕ} {before after ends : List ℕ} (M : Made t low high i before after ends)
     (a : low ≡ lesser min (length before)) (b : Last high low max (length before)) (p : min ≤ max) where
   -- Where the last count is the highest, its ends alone are left to add.
-  pub last_lacking : {ends' : List ℕ} → max < length before → ends' ≡ ends → Lacking tables table min max i before after ends'
+  pub last_lacking : {ends' : List ℕ} → max < length before → ends' ≡ ends → Lacking t min max i before after ends'
   last_lacking l e = rw e record {
     long = M.gained.long;
     wide = M.wide;
     rest = λ g.
         let m : low ≡ min = omega arith in
         let h : high ≡ max = ⊎_elim (λ q. omega arith) (λ q. omega arith) b in
-        rw (m, h) at (all_gained tables table (length before) i ends M.copies refl (omega arith) M.few M.gained M.carried g);
+        rw (m, h) at (all_gained t (length before) i ends M.copies refl (omega arith) M.few M.gained M.carried g);
   }
 
   -- Where it is the lowest, its ends, closed, are those of all counts.
   pub closed_lacking : {ends' closed : List ℕ} → length before ≤ max → length before ≤ 257
-      → Gains (take (length before) ends) closed (Onward (Kept tables table (length (take (length before) ends))) (take (length before) ends) i)
-      → ends' ≡ closed ++ drop (length before) ends → Lacking tables table min max i before after ends'
+      → Gains (take (length before) ends) closed (Onward (RunsOf t) (take (length before) ends) i)
+      → ends' ≡ closed ++ drop (length before) ends → Lacking t min max i before after ends'
   closed_lacking {ends'} {closed} l f g e = rw e record {
     long = M.gained.long;
     wide = whole_long ends side M.wide f g;
     rest = λ h.
         gains_as
-        (λ j k. let (on, back) = no_highest (Kept tables table side) (kept_forward tables table side) min max side i j p l k in (
+        (λ j k. let (on, back) = no_highest (RunsOf t) (kept_forward t) min max side i j p l k in (
           ⊎_elim (λ (c, q, r, xs). absurd (omega (arith, M.few, lowest))) (λ (q, x). on (rw a at ((all.ends j k).0 x))),
-          λ w. let (c, q, xs) = back w in inr (from_the_start tables table side i c j xs, (all.ends j k).1 (c, rw a q, xs)),
+          λ w. let (c, q, xs) = back w in inr (from_the_start t side i c j xs, (all.ends j k).1 (c, rw a q, xs)),
         ))
         (gains_then M.gained h);
   }
@@ -240,24 +241,8 @@ module _ (min max : ℕ) {tables : List ℕ} {table low high i : ℕ} {before af
       lowest : high ≡ low
       lowest = ⊎_elim (λ q. omega arith) (λ q. omega arith) b
 
-      ends_of_the_lowest : Carries ends side (By tables table side i low)
+      ends_of_the_lowest : Carries ends side (By t side i low)
       ends_of_the_lowest = M.carried low (omega (arith, M.few, lowest)) (omega (arith, lowest))
 
-      all : Carries (closed ++ drop side ends) side (λ j. (c : ℕ) × (low ≤ c) × By tables table side i c j)
-      all = closed_carries tables table side i low M.wide f ends_of_the_lowest (rw (part_long ends side M.wide f) at g)
-
--- A row that is added from its first byte on is added as it is.
-from_its_first_byte : (i : ℕ) (ends : List ℕ) {before after : List ℕ} → Gains before after (λ j. (i ≤ j) × (get_or ends (0 + j) 0 ≡ 1))
-    → Gains before after (λ j. (i ≤ j) × In ends j)
-from_its_first_byte i ends g = simp zero-add at g
-
--- The ends are added where the count is not below the lowest.
-pub counted : (low copies i : ℕ) (ends : List ℕ) {before after : List ℕ} → low ≤ copies
-    → Gains before after (λ j. (i ≤ j) × (get_or ends (0 + j) 0 ≡ 1)) → Gains before after (λ j. (low ≤ copies) × (i ≤ j) × In ends j)
-counted low copies i ends l g = gains_as (λ j k. (λ x. (l, x.0, x.1), λ x. (x.1, x.2))) (from_its_first_byte i ends g)
-
--- With the row of ends all that is repeated is added.
-pub nothing_lacking : {tables : List ℕ} {table min max i : ℕ} {before after ends final : List ℕ}
-    → Lacking tables table min max i before after ends → Gains after final (λ j. (i ≤ j) × (get_or ends (0 + j) 0 ≡ 1))
-    → Gains before final (Repeated tables table (length before) min max i)
-nothing_lacking {i = i} {ends = ends} L g = L.rest (from_its_first_byte i ends g)
+      all : Carries (closed ++ drop side ends) side (λ j. (c : ℕ) × (low ≤ c) × By t side i c j)
+      all = closed_carries t side i low M.wide f ends_of_the_lowest g

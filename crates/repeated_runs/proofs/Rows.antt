@@ -3,7 +3,7 @@ use mathlib.Core.Bool.{Bool, true}
 use mathlib.Core.Path.{◌≡◌, sym, ap, ◌∙◌}
 use mathlib.Core.Logic.{◌↔◌}
 use mathlib.Core.List.{List, ◌++◌}
-use Prim.Native.Nat.{ℕ, ◌+◌, ◌*◌, ◌≤◌, ◌<◌}
+use Prim.Native.Nat.{ℕ, ◌≤◌, ◌<◌}
 use native.Mathlib.Omega.{arith}
 use lib.Dec.{eqb}
 use lib.Pointwise.{pointwise}
@@ -11,6 +11,7 @@ use Rattle.std.proofs.lemmas.Bool.Decides.{Decides-eqb}
 use Rattle.std.proofs.lemmas.Slice.Eq.{slice_eq-Decides}
 use lib.ListN.{length, get_or, take, drop, replicate, length-append, length-drop, get_or-append}
 use lib.Seq.{get_or-take, length-take-le}
+use Rattle.meaning.specs.Match.{Runs}
 use Rattle.runs.specs.Ends.{Gains, In, Reached}
 use Rattle.runs.proofs.Laws.{zeros_blank, part_blank, in_gained_blank}
 use Rattle.repeated_runs.specs.Repeated.{Alike, Carries}
@@ -25,18 +26,6 @@ module _ (row : List ℕ) (n : ℕ) (w : length row ≡ 257) (f : n ≤ 257) whe
   -- The first n bytes of a row are n.
   pub part_long : length (take n row) ≡ n
   part_long = length-take-le n row (omega arith)
-
-  -- The first n bytes of a row are no more than a row has.
-  pub part_short : length (take n row) ≤ 257
-  part_short = omega (arith, part_long)
-
-  -- The first n bytes of a row are no fewer than n.
-  pub part_covers : n ≤ length (take n row)
-  part_covers = omega (arith, part_long)
-
-  -- A table with a side of n has one as long as the first n bytes of a row.
-  pub part_fits : (table size : ℕ) → table + n * n ≤ size → table + length (take n row) * length (take n row) ≤ size
-  part_fits table size p = rw part_long p
 
   -- The first n bytes of a row carry what the row carries there.
   pub part_carries : {P : ℕ → Type 0} → Carries row n P → Carries (take n row) n P
@@ -59,8 +48,7 @@ module _ (row : List ℕ) (n : ℕ) (w : length row ≡ 257) (f : n ≤ 257) whe
         whole_carries (λ j h. in_gained_blank (part_blank n row (rw e (zeros_blank 257))) g j (omega (arith, part_long)))
 
 -- A row without ends whose first bytes gained the ends that a table reaches carries these ends.
-pub carries_what_is_reached : (tables : List ℕ) (table first : ℕ) (from : List ℕ) {row after : List ℕ} → row ≡ replicate 257 0 → length row ≡ 257
-    → length from ≤ 257 → Gains (take (length from) row) after (Reached tables table (length (take (length from) row)) from first 0)
-    → Carries (after ++ drop (length from) row) (length from) (Reached tables table (length from) from first 0)
-carries_what_is_reached tables table first from {row} e w f g =
-    carries_what_it_gained row (length from) w f (rw (part_long row (length from) w f) at g) e
+pub carries_what_is_reached : (R : Runs) (first : ℕ) (from : List ℕ) {row after : List ℕ} → row ≡ replicate 257 0 → length row ≡ 257
+    → length from ≤ 257 → Gains (take (length from) row) after (Reached R from first 0)
+    → Carries (after ++ drop (length from) row) (length from) (Reached R from first 0)
+carries_what_is_reached R first from {row} e w f g = carries_what_it_gained row (length from) w f g e

@@ -2,11 +2,11 @@
 -- Example: twice the runs [0, 1) and [1, 2) is [0, 2).
 use Rattle.std.specs.Prelude.{◌≡◌, ◌⊎◌, ◌↔◌, List, ℕ, suc, ◌≤◌, ◌<◌, get_or}
 use Rattle.meaning.specs.Match.{Runs, Times}
-use Rattle.runs.specs.Ends.{Kept, In}
+use Rattle.runs.specs.Ends.{In}
 
--- The runs of a repetition by min to max, from the table of its operand.
-abbrev pub Repeated : List ℕ → ℕ → ℕ → ℕ → ℕ → ℕ → ℕ → Type 0
-Repeated tables table side min max i j = (c : ℕ) × (min ≤ c) × (c ≤ max) × Times c (Kept tables table side) i j
+-- The runs of a repetition by min to max, from the runs of its operand.
+abbrev pub Repeated : Runs → ℕ → ℕ → Runs
+Repeated R min max i j = (c : ℕ) × (min ≤ c) × (c ≤ max) × Times c R i j
 
 -- Two rows that are the same below the side.
 abbrev pub Alike : List ℕ → List ℕ → ℕ → Type 0

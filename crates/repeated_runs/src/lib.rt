@@ -8,8 +8,11 @@
 #![tactic(auto)]
 
 ghost use Rattle.std.specs.Prelude.{◌≡◌, ◌+◌, ◌*◌, ◌≤◌, ◌<◌, length};
-ghost use Rattle.runs.specs.Ends.{Gains, In, Kept, Stands, Reached};
+ghost use Rattle.runs.specs.Ends.{Gains, In, Reached};
+ghost use Rattle.runs.specs.Tables.{RunsOf};
 ghost use Rattle.repeated_runs.specs.Repeated.{Repeated, Carries, Last, Onward};
+
+use runs::Table;
 
 // The last count to which copies are made one by one: the lowest one, where the highest is not below the side, and else the highest.
 fn last(low: usize, max: u32, side: usize) -> usize
@@ -20,12 +23,12 @@ fn last(low: usize, max: u32, side: usize) -> usize
 }
 
 // The ends of one copy more, from those of the copies before.
-fn once_more(tables: &[u8], table: usize, first: usize, from: &[u8]) -> [u8; runs::SIDE]
-    requires { Stands tables.now table (length from.now) × (length from.now ≤ 257) }
-    ensures { Carries result (length from.now) (Reached tables.now table (length from.now) from.now first 0) }
+fn once_more(table: Table, first: usize, from: &[u8]) -> [u8; runs::SIDE]
+    requires { (length from.now ≡ table.side) × (length from.now ≤ 257) }
+    ensures { Carries result (length from.now) (Reached (RunsOf table.entry) from.now first 0) }
 {
     let mut to = [0; runs::SIDE];
-    runs::reach(tables, table, from, first, 0, &mut to[..from.len()]);
+    runs::reach(table, from, first, 0, &mut to[..from.len()]);
     to
 }
 
@@ -35,28 +38,28 @@ fn add_counted(copies: usize, low: usize, ends: &[u8], i: usize, row: &mut [u8])
     ensures { Gains row.old row.new (λ j. (low ≤ copies) × (i ≤ j) × In ends.now j) }
 {
     if low <= copies {
-        runs::add_ends(ends, 0, i, row);
+        runs::add_ends(ends, i, row);
     }
 }
 
 // Adds the ends that the table reaches, by one run or more, from the row's own, those from `first` on. Runs go forward, so one pass is
 // enough: nothing is added behind it.
-fn close(tables: &[u8], table: usize, first: usize, row: &mut [u8])
-    requires { Stands tables.now table (length row.old) }
-    ensures { Gains row.old row.new (Onward (Kept tables.now table (length row.old)) row.old first) }
+fn close(table: Table, first: usize, row: &mut [u8])
+    requires { length row.old ≡ table.side }
+    ensures { Gains row.old row.new (Onward (RunsOf table.entry) row.old first) }
 {
     for k in first..row.len() {
         if row[k] == 1 {
-            runs::add_ends(tables, table + k * row.len(), k, row);
+            runs::add_ends(table.row(k), k, row);
         }
     }
 }
 
 // Adds the ends of a repetition from i on. Where one copy more reaches the same ends, so does every later one. Where the highest count
 // is as good as none, the ends of the lowest are closed.
-pub fn repeated(tables: &[u8], table: usize, min: u32, max: u32, i: usize, row: &mut [u8])
-    requires { Stands tables.now table (length row.old) × (i < length row.old) × (length row.old ≤ 257) × (min ≤ max) }
-    ensures { Gains row.old row.new (Repeated tables.now table (length row.old) min max i) }
+pub fn repeated(table: Table, min: u32, max: u32, i: usize, row: &mut [u8])
+    requires { (length row.old ≡ table.side) × (i < length row.old) × (length row.old ≤ 257) × (min ≤ max) }
+    ensures { Gains row.old row.new (Repeated (RunsOf table.entry) min max i) }
 {
     let side = row.len();
     let low = (min as usize).min(side);
@@ -65,14 +68,14 @@ pub fn repeated(tables: &[u8], table: usize, min: u32, max: u32, i: usize, row: 
     ends[i] = 1;
     for copies in 0..high {
         add_counted(copies, low, &ends, i, row);
-        let next = once_more(tables, table, i, &ends[..side]);
+        let next = once_more(table, i, &ends[..side]);
         if ends[..side] == next[..side] {
             break;
         }
         ends = next;
     }
     if side <= max as usize {
-        close(tables, table, i, &mut ends[..side]);
+        close(table, i, &mut ends[..side]);
     }
-    runs::add_ends(&ends, 0, i, row);
+    runs::add_ends(&ends, i, row);
 }

@@ -3,9 +3,8 @@
 use mathlib.Core.Path.{◌≡◌, refl, sym, subst, ◌∙◌}
 use mathlib.Core.Logic.{◌⊎◌, inl, inr, ⊎_elim, ◌↔◌}
 use mathlib.Core.List.{List}
-use Prim.Native.Nat.{ℕ, ◌+◌, ◌*◌, ◌≤◌, ◌<◌}
+use Prim.Native.Nat.{ℕ, ◌+◌, ◌≤◌, ◌<◌}
 use native.Mathlib.Omega.{arith}
-use native.Mathlib.Nat.{mul-le-mul}
 use native.Mathlib.Decide.{ℕ_discrete, dec_le}
 use lib.ListN.{length, get_or, set, take, replicate, length-set, length-take, length-replicate, get_or-replicate, get_or-eq_default}
 use lib.Seq.{get_or-set_same, get_or-set_other, get_or-take, ext_get_or}
@@ -129,10 +128,6 @@ pub in_gained_blank : {before after : List ℕ} {P : ℕ → Type 0} → Blank b
 in_gained_blank b g j l =
     let s = in_gained g j l in
     (λ i. ⊎_elim (λ k. absurd (b j k)) (λ p. p) (s.0 i), λ p. s.1 (inr p))
-
--- A row of a table lies inside of it.
-pub row_inside : (table k n size : ℕ) → table + n * n ≤ size → k < n → table + k * n + n ≤ size
-row_inside table k n size h l = omega (arith, mul-le-mul {n₁ = k + 1} {m₁ = n} {n₂ = n} {m₂ = n} (omega arith) (omega arith))
 
 -- What a row gains leaves one outcome.
 pub gains_once : {before after after' : List ℕ} {P : ℕ → Type 0} → Gains before after P → Gains before after' P → after ≡ after'

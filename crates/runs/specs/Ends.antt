@@ -26,5 +26,5 @@ abbrev pub Stands : List ℕ → ℕ → ℕ → Type 0
 Stands tables place side = place + side * side ≤ length tables
 
 -- The ends of runs of so many ticks at least that begin in the row, from `first` on.
-abbrev pub Reached : List ℕ → ℕ → ℕ → List ℕ → ℕ → ℕ → ℕ → Type 0
-Reached tables place side from first least j = (k : ℕ) × (first ≤ k) × In from k × (k + least ≤ j) × Kept tables place side k j
+abbrev pub Reached : Runs → List ℕ → ℕ → ℕ → ℕ → Type 0
+Reached R from first least j = (k : ℕ) × (first ≤ k) × In from k × (k + least ≤ j) × R k j

@@ -7,15 +7,14 @@ use native.Mathlib.Nat.{add-zero, add-suc, suc-add}
 use native.Mathlib.Numerals.{add-one}
 use native.Mathlib.Omega.{arith}
 use lib.ListN.{length, set, get_or, take, drop, length-append, get_or-append}
-use lib.Seq.{sets, length-sets, sets-eq, length-take-le, take_at, drop_at, drop-drop, take-append_seam, get_or-set_other, get_or-append-add, drop-cons}
-use borrow.Rule.Slice.PartMut.{put_mid}
+use lib.Seq.{sets, length-sets, sets-eq, length-take-le, take_at, drop_at, take-append_seam, take-suc, take_all, get_or-set_other, get_or-append-add, drop-cons}
 use Rattle.words.specs.Written.{written, Wrote}
 
 pub length-written : (o : List ℕ) (at : ℕ) (ws : List ℕ) → length (written o at ws) ≡ length o
 unfolding written
 length-written o at ws = length-sets o at ws
 
-sets-append : (xs ys o : List ℕ) (at : ℕ) → sets o at (xs ++ ys) ≡ sets (sets o at xs) (at + length xs) ys
+sets-append : {A : Type 0} (xs ys o : List A) (at : ℕ) → sets o at (xs ++ ys) ≡ sets (sets o at xs) (at + length xs) ys
 sets-append [] ys o at = rw add-zero
 sets-append (x ∷ xs) ys o at = sets-append xs ys (set o at x) (suc at) ∙ rw (suc-add, add-suc)
 
@@ -102,10 +101,6 @@ pub spliced : {A : Type 0} (o : List A) (at : ℕ) (ws : List A) → at + length
 unfolding written
 spliced o at ws h = sets-eq ws o at h
 
--- What a slice holds once a part of it is overwritten is what it holds once the words are put there.
-pub overwritten : {A : Type 0} (o ws : List A) (at n : ℕ) → n ≡ length ws → at + length ws ≤ length o → put_mid at n o ws ≡ written o at ws
-overwritten o ws at n e h = rw (e, drop-drop) (sym (spliced o at ws h ∙ append_assoc (take at o) ws (drop (at + length ws) o)))
-
 -- What was written is there to be read.
 pub read_back : (o : List ℕ) (at : ℕ) (ws : List ℕ) (i : ℕ) → at + length ws ≤ length o → i < length ws → get_or (written o at ws) (at + i) 0 ≡ get_or ws i 0
 read_back o at ws i h k =
@@ -136,3 +131,21 @@ front_written {o} {o'} {n} {ws} w h =
 -- The element that the code reads next, in front of what it reads later.
 pub drop_here : (s : List ℕ) (i : ℕ) → i < length s → drop i s ≡ get_or s i 0 ∷ drop (i + 1) s
 drop_here s i h = rw (add-one i) (drop-cons s i 0 h)
+
+-- The first i words of a slice are copied.
+pub copying_begins : {A : Type 0} (words o : List A) (at : ℕ) → Wrote o o at at (take 0 words)
+unfolding written
+copying_begins words o at = record { holds = refl; ends = omega arith }
+
+pub copying_on : {A : Type 0} (words : List A) {o o' o'' : List A} {at p q i : ℕ} {w : A} → Wrote o o' at p (take i words) → i < length words → get_or words i w ≡ w
+    → Wrote o' o'' p q (w ∷ []) → Wrote o o'' at q (take (i + 1) words)
+unfolding written
+copying_on words {o} {at = at} {i = i} {w} c h e x =
+    let more : take (i + 1) words ≡ take i words ++ (w ∷ []) = rw (add-one, take-suc words i w h, e) refl in
+    rw more (record {
+      holds = x.holds ∙ rw (c.holds, c.ends) (sym (sets-append (take i words) (w ∷ []) o at));
+      ends = omega (arith, x.ends, c.ends, length-append (take i words) (w ∷ []));
+    })
+
+pub copying_ends : {A : Type 0} {words o o' : List A} {at p i : ℕ} → Wrote o o' at p (take i words) → length words ≤ i → Wrote o o' at p words
+copying_ends {words = words} {i = i} c h = rw (take_all i words h) at c

@@ -21,7 +21,10 @@ pub fn copied<T: Copy>(words: &[T], out: &mut [T], place: usize) -> usize
     requires { place + length words.now ≤ length out.old }
     ensures { Wrote out.old out.new place result words.now }
 {
-    let next = place + words.len();
-    out[place..next].copy_from_slice(words);
+    // Word by word, since most are copied by twos and threes, and a call to copy them takes longer than that.
+    let mut next = place;
+    for &word in words {
+        next = put(out, next, word);
+    }
     next
 }

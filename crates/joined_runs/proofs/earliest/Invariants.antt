@@ -3,4 +3,4 @@ use Rattle.joined_runs.proofs.Lowering.{Lowering}
 use Rattle.joined_runs.proofs.earliest.Given as goal
 
 abbrev pub invariant-loop-k : goal.invariant-loop-k
-invariant-loop-k l = Lowering l.tables l.table l.side l.i l.end l.k
+invariant-loop-k l = Lowering l.table l.i l.end l.k

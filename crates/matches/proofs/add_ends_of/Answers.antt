@@ -1,20 +1,26 @@
 -- Each kind adds its ends from what its operands are.
 use borrow.Author.Rules.{rules}
 use native.Mathlib.Omega.{arith}
-use Rattle.matches.proofs.AddedEnds.{operand_stands, atom_recorded, delay_left_below, delay_right_below, covered_below, condition_recorded, one_below, two_below, known, counts_on, counted_some, counted_recorded, occurs_added, delayed_added, repeated_added, throughout_added, inside_added, counted_added}
+use Rattle.matches.proofs.AddedEnds.{operand_few, operand_stands, atom_recorded, delay_left_below, delay_right_below, condition_recorded, one_below, two_below, known, counts_on, counted_some, counted_recorded, occurs_added, delayed_added, repeated_added, throughout_added, inside_added, counted_added}
 use Rattle.matches.proofs.add_ends_of.Goals as goal
 
 pub occurs-requires : goal.occurs-requires
 occurs-requires c = (search rules, search atom_recorded, search rules)
 
-pub delayed-requires : goal.delayed-requires
-delayed-requires c = (search (operand_stands, delay_left_below), search (operand_stands, delay_right_below), search rules, search rules)
+pub table-left-requires : goal.table-left-requires
+table-left-requires c = (search (operand_stands, delay_left_below), search rules, search (operand_few, delay_left_below))
+
+pub table-right-requires : goal.table-right-requires
+table-right-requires c = (search (operand_stands, delay_right_below), search rules, search (operand_few, delay_right_below))
 
 pub throughout-requires : goal.throughout-requires
-throughout-requires c = (search (operand_stands, covered_below), search rules, search condition_recorded, search rules)
+throughout-requires c = (search rules, search rules, search condition_recorded, search rules)
 
-pub inside-requires : goal.inside-requires
-inside-requires c = (search (operand_stands, one_below), search (operand_stands, two_below), search rules)
+pub table-one-requires : goal.table-one-requires
+table-one-requires c = (search (operand_stands, one_below), search rules, search (operand_few, one_below))
+
+pub table-two-requires : goal.table-two-requires
+table-two-requires c = (search (operand_stands, two_below), search rules, search (operand_few, two_below))
 
 pub counted-requires : goal.counted-requires
 counted-requires c =

@@ -1,6 +1,6 @@
 -- The loop counts b, and sets the ends as it passes them.
 use Rattle.std.proofs.Common.{arith, ◌≡◌, ◌||◌, true, false}
-use Rattle.recorded_runs.proofs.Counting.{counting_begins, counting_adds, counting_waits, counting_on, counting_stops, counting_ends}
+use Rattle.recorded_runs.proofs.Counting.{counting_begins, counting_adds, counting_waits, counting_on, counting_stops}
 use Rattle.recorded_runs.proofs.counted.Goals as goal
 use Rattle.recorded_runs.proofs.counted.Goals.{then-seen-count-2+then-goes_on, then-here, else-here, else-seen-count-2, else-seen-count-2-via-then-seen-count-2+else-goes_on, else-seen-count-2-via-else-seen-count-2}
 
@@ -23,6 +23,3 @@ loop-tick-preserved c =
         | else-seen-count-2-via-else-seen-count-2 v ↦ search counting_on
       ])
     ]
-
-pub returns : goal.returns
-returns c = search counting_ends

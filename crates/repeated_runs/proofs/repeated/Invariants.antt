@@ -4,4 +4,4 @@ use Rattle.repeated_runs.proofs.Repeating.{Repeating}
 use Rattle.repeated_runs.proofs.repeated.Given as goal
 
 abbrev pub invariant-loop-copies : goal.invariant-loop-copies
-invariant-loop-copies l = Repeating l.tables l.table l.low l.high l.i l.initial.row l.row l.ends l.copies
+invariant-loop-copies l = Repeating l.table l.low l.high l.i l.initial.row l.row l.ends l.copies

@@ -20,6 +20,7 @@ use Rattle.term.specs.contracts.Alternative.step as step
 use Rattle.term.specs.contracts.Alternative.guard as guard
 use Rattle.tree.specs.contracts.read as read
 use Rattle.tree.specs.contracts.columns as columns
+use Rattle.tree.specs.contracts.is_atom as is_atom
 use Rattle.tree.specs.contracts.checked as checked
 use Rattle.outline.specs.contracts.is_repeated as is_repeated
 use Rattle.outline.specs.contracts.count_of as count_of
@@ -77,6 +78,9 @@ module _ {M : Type 1} {𝓤 : Ura M} (𝓛 : Logic 𝓤) (mem : Memory → SProp
 
   pub tree_columns_has_one_outcome : OneOutcome 𝓤 columns.ended (columns.clauses 𝓛 mem run)
   tree_columns_has_one_outcome κs a g o o' = by_an_equation 𝓤
+
+  pub tree_is_atom_has_one_outcome : OneOutcome 𝓤 is_atom.ended (is_atom.clauses 𝓛 mem run)
+  tree_is_atom_has_one_outcome κs a g o o' = by_an_equation 𝓤
 
   pub tree_checked_has_one_outcome : OneOutcome 𝓤 checked.ended (checked.clauses 𝓛 mem run)
   tree_checked_has_one_outcome κs a g o o' = by_an_equation 𝓤

@@ -52,7 +52,8 @@ fn capped(alternatives: u64, entries: u64, plain: bool, guarded: bool) -> Counts
     }
 }
 
-// Every left with every right, for one hop.
+// Every left with every right, for one hop. Here and in `sum` the flags are joined without a branch: with `&&` and `||` a level of the walk takes half
+// as many instructions again.
 #[tactic(auto, unfolding(crate::specs::Capped::product, words::specs::Choice::pick))]
 fn product(l: Counts, r: Counts) -> Counts
     requires { Small l × Small r }
@@ -63,8 +64,8 @@ fn product(l: Counts, r: Counts) -> Counts
     capped(
         a * b,
         u64::from(l.entries) * b + a * u64::from(r.entries),
-        l.plain && r.plain,
-        l.guarded || r.guarded,
+        l.plain & r.plain,
+        l.guarded | r.guarded,
     )
 }
 
@@ -77,8 +78,8 @@ fn sum(l: Counts, r: Counts) -> Counts
     capped(
         u64::from(l.alternatives) + u64::from(r.alternatives),
         u64::from(l.entries) + u64::from(r.entries),
-        l.plain && r.plain,
-        l.guarded || r.guarded,
+        l.plain & r.plain,
+        l.guarded | r.guarded,
     )
 }
 

@@ -105,10 +105,11 @@ fn fill_table(tree: &[u32], rows: Rows, side: usize, n: u32, tables: &mut [u8])
     }
 }
 
-// Fills the tables of node n and of all below it, the operands' first. Goto and nonconsecutive repetition read their atom off the rows.
-fn fill(tree: &[u32], rows: Rows, side: usize, n: u32, tables: &mut [u8])
-    requires { Fillable tree.now rows.bytes.now rows.width side (length tables.old) × (n < nodes tree.now) }
-    ensures { Filled tree.now rows.entry.bytes.now rows.entry.width side tables.old tables.new n }
+// Fills the tables of node n and of all below it, the operands' first. Goto and nonconsecutive repetition read their atom off the rows,
+// which are lent, so that a level of the tree keeps no copy of them on the stack.
+fn fill(tree: &[u32], rows: &Rows, side: usize, n: u32, tables: &mut [u8])
+    requires { Fillable tree.now rows.now.bytes.now rows.now.width side (length tables.old) × (n < nodes tree.now) }
+    ensures { Filled tree.now rows.now.bytes.now rows.now.width side tables.old tables.new n }
 {
     let v = tree::read(tree, n);
     match v.kind {
@@ -120,7 +121,7 @@ fn fill(tree: &[u32], rows: Rows, side: usize, n: u32, tables: &mut [u8])
         }
         _ => {}
     }
-    fill_table(tree, rows, side, n, tables);
+    fill_table(tree, *rows, side, n, tables);
 }
 
 // Whether a run of the table has its last tick here: one that is not empty.
@@ -154,7 +155,7 @@ fn answer_ticks(tree: &[u32], rows: Rows, ticks: usize, answers: &mut [u8], work
 {
     let root = (tree.len() / 5 - 1) as u32;
     let side = ticks + 1;
-    fill(tree, rows, side, root, work);
+    fill(tree, &rows, side, root, work);
     put_answers(table(work, side, root), answers);
 }
 

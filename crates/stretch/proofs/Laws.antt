@@ -8,7 +8,7 @@ use native.Mathlib.Decide.{dec_le}
 use native.Mathlib.Omega.{arith}
 use lib.Dec.{T, eqb, ltb}
 use lib.ListN.{length, get_or, take, drop, length-take, length-drop, drop_of_length-le}
-use lib.Seq.{drop-drop, get_or-drop}
+use lib.Seq.{drop-drop, get_or-drop, take_all}
 use borrow.Author.Tests.{lt-ltb, ltb-true, ltb-false}
 use Rattle.words.specs.Choice.{pick, pick_true, pick_false, pick_case}
 use Rattle.words.proofs.Taken.{second_holds}
@@ -113,6 +113,10 @@ assignment_is_front (w ∷ ws) =
 -- An assignment has no more words than it is taken from.
 assignment_is_no_longer : (ws : List ℕ) → length (assignment ws) ≤ length ws
 assignment_is_no_longer ws = omega (arith, ap length (assignment_is_front ws), length-take (length (assignment ws)) ws)
+
+-- The part from the place on, where the place lies in the listing, is what stands there.
+pub part_is_rest : (listing : List ℕ) (place : ℕ) (part : Bor (List ℕ)) → IsGetRangeResult listing place (length listing) (Some part) → part.now ≡ drop place listing
+part_is_rest listing place part h = h.0.2 ∙ take_all _ (drop place listing) (omega (arith, length-drop place listing))
 
 -- The part up to the end is the assignment; there is no such part where the place is past the listing's own end, and no word stands.
 pub part_is_assignment : (listing : List ℕ) (place : ℕ) {end : ℕ} (part : Option (Bor (List ℕ))) (none : Bor (List ℕ)) → end ≡ place + length (assignment_at listing place)

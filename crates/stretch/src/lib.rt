@@ -15,14 +15,18 @@ ghost use Rattle.meaning.specs.Check.{stretch as stretch_of, stretch_from};
 ghost use Rattle.stretch.specs.Assignment.{assignment_at, another_at};
 ghost use Rattle.stretch.specs.Start.{start_from, stretch_start};
 
-// How many words from the place on stand before the first store.
+// How many words stand before the first store.
+fn first_store(words: &[u32]) -> Option<usize>
+    ensures { result ≡ position is_store words.now }
+{
+    words.iter().position(|w| listing::is_store(*w))
+}
+
+// How many words from the place on stand before the first store. The part is taken by its place: std's `skip` would pass over each word before it.
 fn before_store(listing: &[u32], place: usize) -> Option<usize>
     ensures { result ≡ position is_store (drop place listing.now) }
 {
-    listing
-        .iter()
-        .skip(place)
-        .position(|w| listing::is_store(*w))
+    first_store(listing.get(place..)?)
 }
 
 // Whether a word stands at the place, and the assignment that begins there does not drive the register.
@@ -112,9 +116,9 @@ fn driving<'a>(listing: &'a [u32], register: u32) -> Reader<'a>
 pub fn stretch(listing: &[u32], register: u32) -> &[u32]
     ensures { result.now ≡ stretch_of listing.now register }
 {
-    if listing::checked(listing).is_err() {
+    let Ok(()) = listing::checked(listing) else {
         return &[];
-    }
+    };
     driving(listing, register).assignment()
 }
 
@@ -123,9 +127,9 @@ pub fn stretch(listing: &[u32], register: u32) -> &[u32]
 pub fn start(listing: &[u32], register: u32) -> usize
     ensures { result ≡ stretch_start listing.now register }
 {
-    if listing::checked(listing).is_err() {
+    let Ok(()) = listing::checked(listing) else {
         return 0;
-    }
+    };
     let start = driving(listing, register).at;
     if start < listing.len() { start } else { 0 }
 }

@@ -17,7 +17,7 @@ use Rattle.meaning.specs.declared.Node.{Node}
 use Rattle.tree.specs.Uses.{use_if, use_operands, used_by, OperandsWithin, AllOperandsWithin}
 
 -- The list keeps its length.
-length-use_if : (used : List ℕ) (operand : Bool) (k : ℕ) → length (use_if used operand k) ≡ length used
+pub length-use_if : (used : List ℕ) (operand : Bool) (k : ℕ) → length (use_if used operand k) ≡ length used
 unfolding use_if
 length-use_if used operand k =
     pick_case (λ (l : List ℕ). length l ≡ length used) operand
@@ -80,7 +80,7 @@ length-use_operands : (used : List ℕ) (v : Node) → length (use_operands used
 unfolding use_operands
 length-use_operands used v = length-use_if (use_if used (uses_p v) v.p) (uses_q v) v.q ∙ length-use_if used (uses_p v) v.p
 
-length-used_by : (t : List ℕ) (count : ℕ) (used : List ℕ) → length (used_by t count used) ≡ length used
+pub length-used_by : (t : List ℕ) (count : ℕ) (used : List ℕ) → length (used_by t count used) ≡ length used
 unfolding used_by
 length-used_by t zero used = refl
 length-used_by t (suc count) used = length-use_operands (used_by t count used) (node_at t count) ∙ length-used_by t count used

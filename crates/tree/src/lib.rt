@@ -79,7 +79,7 @@ fn formed_span(span: Span, min: u32, max: u32) -> bool
 }
 
 // 1, of node n: "an unknown kind, a word that its kind does not use and that is not 0, an atom or condition above 65,535, ..". All is asked at once:
-// tests that stop at the first which fails take a third longer a node.
+// tests that stop at the first which fails take up to three tenths more instructions a node.
 #[tactic(auto, unfolding(meaning::specs::Refusals::formed_node, words::specs::Choice::pick))]
 fn formed_node(n: u32, v: meaning::Node) -> bool
     ensures { result ≡ formed_node n v }

@@ -41,6 +41,8 @@ fn row(p: Part, q: Part, span: Span) -> meaning::Columns
 
 // The specification's table of kinds: what p and q are, and what min and max are. A kind that the specification does not know uses no word.
 // A kind stays a number: refusal 1 tells unknown ones apart, and the definitions of a tree read it as one.
+// Two kinds of one row have an arm each: with one arm for both, an atom, which uses no operand, takes 12 instructions in place of 7 where uses are
+// counted.
 #[tactic(auto, unfolding(meaning::specs::Kinds::columns, words::specs::Choice::pick))]
 pub fn columns(kind: u32) -> meaning::Columns
     ensures { result ≡ columns kind }
@@ -49,7 +51,8 @@ pub fn columns(kind: u32) -> meaning::Columns
         kind::ATOM => row(Part::Atom, Part::Unused, Span::Unused),
         kind::DELAY => row(Part::Operand, Part::Operand, Span::Range),
         kind::CONSECUTIVE => row(Part::Operand, Part::Unused, Span::Range),
-        kind::GOTO | kind::NONCONSECUTIVE => row(Part::Operand, Part::Unused, Span::Count),
+        kind::GOTO => row(Part::Operand, Part::Unused, Span::Count),
+        kind::NONCONSECUTIVE => row(Part::Operand, Part::Unused, Span::Count),
         kind::THROUGHOUT => row(Part::Atom, Part::Operand, Span::Unused),
         kind::WITHIN => row(Part::Operand, Part::Operand, Span::Unused),
         _ => row(Part::Unused, Part::Unused, Span::Unused),
